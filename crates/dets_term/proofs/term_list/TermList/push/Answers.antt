@@ -1,0 +1,7 @@
+use Rattle.std.proofs.Common.{◌≡◌, ap, ◌∙◌, sym, max, arith}
+use Rattle.dets_term.specs.Parts.{deepest, deepest-push, AreTerms, AreTerms-push}
+use Rattle.dets_term.proofs.term_list.TermList.push.Goals as goal
+
+pub invariant_of-self-2 : goal.invariant_of-self-2
+invariant_of-self-2 c =
+    rw c.in_ok-push.ensures.items (cc (deepest-push c.self.inside.items.items c.args.item), AreTerms-push _ _ c.self.invariant.1 c.depth.ensures.term)

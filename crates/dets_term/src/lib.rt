@@ -1,0 +1,19 @@
+//! Erlang's terms: integers, atoms, tuples and lists, with depth, equality and keys.
+//!
+//! The lowest crate of terms; it stands on std alone. A `Term` keeps its limits at every moment: at most
+//! 256 levels, fewer than 2^32 parts in each node, at most 255 characters in an atom. Contracts see a
+//! `Term` as a `TermValue` of `specs/TermValue.antt`.
+#![tactic(auto)]
+
+pub use byte_list::ByteList;
+pub use std::alloc::AllocError as Memory;
+pub use term::{Node, Term, TermFault, eq, key_of};
+pub use term_list::TermList;
+pub use text::Text;
+
+mod byte_list;
+mod term;
+mod term_list;
+#[cfg(test)]
+mod tests;
+mod text;

@@ -1,0 +1,113 @@
+ghost use Rattle.std.specs.Prelude.{◌≡◌, ◌↔◌, List, [], ◌∷◌, ◌++◌, length, IsTrue, OnOk, OnErr, IfOk, slice_get};
+ghost use Rattle.std.specs.Option.{option_copied};
+ghost use Rattle.dets_term.specs.Parts.{deepest, AreTerms};
+
+use crate::Memory;
+use crate::term::{Term, eq};
+use std::alloc::Global;
+use std::marker::Model;
+
+/// A list of terms.
+#[cycle(term)]
+#[derive(Drop)]
+pub struct TermList {
+    items: Vec<Term>,
+    // the greatest depth among them, 0 where there is none
+    levels: u32,
+}
+
+impl Model for TermList {
+    ghost use Rattle.std.specs.Prelude.{◌≡◌, ℕ, ◌+◌, ◌*◌, List};
+    ghost use Rattle.std.specs.Coded.{coded_list};
+    ghost use Rattle.dets_term.specs.TermValue.{TermValue};
+    ghost use Rattle.dets_term.specs.TermCode.{coded_term};
+
+    ghost Value = { List TermValue };
+
+    ghost coded = { coded_list coded_term };
+
+    ghost use Rattle.dets_term.specs.Parts.{deepest, AreTerms, most_le-deepest};
+
+    ghost view = { λ a. a.items.items };
+
+    ghost invariant = { λ a. (a.levels ≡ deepest a.items.items) × AreTerms a.items.items };
+
+    ghost size = { λ ts. 2 * deepest ts + 1 };
+
+    ghost use Rattle.std.proofs.Common.{arith};
+
+    ghost size_decreases = { λ a h. Prim.omega (arith, most_le-deepest a.items.items) };
+}
+
+impl TermList {
+    /// The empty list. It takes no memory yet.
+    pub fn new(alloc: Global) -> TermList
+        ensures { result ≡ [] }
+    {
+        TermList {
+            items: Vec::new(alloc),
+            levels: 0,
+        }
+    }
+
+    /// Puts a term last. After `Memory` the list is as it was.
+    pub fn push(&mut self, item: Term) -> Result<(), Memory>
+        ensures ok { OnOk result (self.new ≡ self.old ++ item ∷ []) }
+        ensures err { OnErr result (self.new ≡ self.old) }
+    {
+        let levels = self.levels.max(item.depth());
+        self.items.push(item)?;
+        self.levels = levels;
+        Ok(())
+    }
+
+    /// How many terms there are.
+    pub fn len(&self) -> usize
+        ensures { result ≡ length self.now }
+    {
+        self.items.len()
+    }
+
+    /// The term at a place, counted from 0.
+    pub fn get(&self, place: usize) -> Option<&Term>
+        ensures { option_copied result ≡ slice_get self.now place }
+    {
+        self.items.get(place)
+    }
+
+    /// The greatest depth among the terms, 0 where there is none.
+    pub(crate) fn levels(&self) -> u32
+        ensures value { result ≡ deepest self.now }
+        ensures terms { AreTerms self.now }
+    {
+        self.levels
+    }
+
+    /// The same terms once more.
+    #[cycle(copy)]
+    pub(crate) fn copy(&self, alloc: Global) -> Result<TermList, Memory>
+        ensures { IfOk result (λ made. made ≡ self.now) }
+    {
+        let mut made = TermList::new(alloc);
+        for item in &self.items {
+            made.push(item.copy(alloc)?)?;
+        }
+        Ok(made)
+    }
+
+    /// Whether two lists have equal terms.
+    #[cycle(equal)]
+    pub(crate) fn equals(&self, other: &TermList) -> bool
+        ensures { IsTrue result ↔ (self.now ≡ other.now) }
+    {
+        if self.items.len() != other.items.len() {
+            return false;
+        }
+        for place in 0..self.items.len() {
+            if !eq(&self.items[place], &other.items[place]) {
+                return false;
+            }
+        }
+        true
+    }
+}
