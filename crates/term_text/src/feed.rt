@@ -3,12 +3,11 @@ ghost use Rattle.dets_term.specs.TermValue.{TermValue};
 ghost use Rattle.term_text.specs.FeedState.{Takes, total};
 ghost use Rattle.term_text.specs.declared.feed.TextFault.TheVariants.{Memory as OutOfMemory};
 
+use crate::Memory;
+use crate::reader::{Reader, is_white_space};
 use dets_term::{Term, TermFault};
 use std::alloc::{AllocFailed, Global};
 use std::marker::Model;
-
-use crate::Memory;
-use crate::reader::{Reader, is_white_space};
 
 /// What a feed answers.
 #[derive(Drop)]

@@ -10,6 +10,5 @@ pub use std::alloc::AllocError as Memory;
 mod feed;
 mod nest;
 mod reader;
-
 #[cfg(test)]
 mod tests;

@@ -1,11 +1,10 @@
 ghost use Rattle.std.specs.Prelude.{◌↔◌, IsTrue};
 ghost use Rattle.term_text.specs.Nest.{IsStopped};
 
+use crate::TextFault;
 use dets_term::{Term, TermList};
 use std::alloc::Global;
 use std::mem;
-
-use crate::TextFault;
 
 /// The greatest number of levels of a term.
 const MAX_LEVELS: usize = 256;

@@ -1,12 +1,11 @@
 ghost use Rattle.std.specs.Prelude.{◌≡◌, ◌-◌, ◌<◌, pos, ◌≤◌, ◌↔◌, IsTrue, IfOk, length};
 ghost use Rattle.term_text.specs.Nest.{IsStopped};
 
+use crate::TextFault;
+use crate::nest::{Bracket, Nest};
 use dets_term::{Term, Text};
 use std::alloc::Global;
 use std::mem;
-
-use crate::TextFault;
-use crate::nest::{Bracket, Nest};
 
 /// The full stop of a term stands among this many bytes from the term's first byte on.
 const MAX_BYTES: u32 = 16_777_216;

@@ -15,15 +15,16 @@ returns-in-Some-true-clause-term c = λ t e.
     let start = c.self.inside.start in
     let read = c.self.inside.read in
     let taken = read + c.in-Ok.taken - start in
-    rw (← c.self.view_is)
-    (taken,
-     record {
-       some =
-         some_read start read c.in-Ok.taken c.self.invariant.started
-         (λ none. c.self.invariant.stop (subst (λ (r : Reader). IsStopped r.nest) (c.in-Ok.ensures.none none) (c.is_stopped.ensures.0 c.if-is_stopped.true)));
-       there = omega (arith, length-drop start items, length-drop read items, ap length c.deref.ensures.value, c.in-Ok.ensures.within);
-       left = ap (λ n. drop n items) (let e : read + c.in-Ok.taken ≡ start + taken = omega arith in e) ∙ sym (drop-drop taken start items);
-       offset = refl;
-       finished = refl;
-       refused = refl;
-     })
+    rw (← c.self.view_is) (
+      taken,
+      record {
+        some =
+            some_read start read c.in-Ok.taken c.self.invariant.started
+            (λ none. c.self.invariant.stop (subst (λ (r : Reader). IsStopped r.nest) (c.in-Ok.ensures.none none) (c.is_stopped.ensures.0 c.if-is_stopped.true)));
+        there = omega (arith, length-drop start items, length-drop read items, ap length c.deref.ensures.value, c.in-Ok.ensures.within);
+        left = ap (λ n. drop n items) (let e : read + c.in-Ok.taken ≡ start + taken = omega arith in e) ∙ sym (drop-drop taken start items);
+        offset = refl;
+        finished = refl;
+        refused = refl;
+      },
+    )

@@ -1,0 +1,26 @@
+//! Where the program meets the outside: a source that it reads, and a host that it writes to.
+//!
+//! Stands on the standard library alone. Two traits say what a call does and when it fails: a failure
+//! comes only where the count of faults of that very object rose. `MemSource` and `MemHost` keep all in
+//! memory, tell what they hold, and fail exactly at the calls that they were told to fail at.
+//! `StdSource` and `FileHost` stand for the real standard input and output, and tell only their counts.
+#![tactic(auto)]
+
+mod counts;
+mod file_host;
+mod mem_host;
+mod mem_source;
+mod reading;
+mod std_source;
+mod writing;
+
+pub use file_host::FileHost;
+pub use mem_host::MemHost;
+pub use mem_source::MemSource;
+pub use reading::{Source, SourceFailed};
+pub use std::alloc::AllocError as Memory;
+pub use std_source::StdSource;
+pub use writing::{Host, OutFailed};
+
+#[cfg(test)]
+mod tests;
