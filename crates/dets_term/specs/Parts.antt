@@ -1,5 +1,5 @@
 -- The deepest of a list of terms, and what a chain of them is as a list.
-use Rattle.std.specs.Prelude.{◌≡◌, ℕ, suc, ◌+◌, ◌*◌, ◌<◌, ◌≤◌, ◌^◌, true, cond, max, List, [], ◌∷◌, ◌++◌, length, refl}
+use Rattle.std.specs.Prelude.{◌≡◌, ℕ, zero, suc, ◌+◌, ◌*◌, ◌<◌, ◌≤◌, ◌^◌, true, cond, max, List, [], ◌∷◌, ◌++◌, length, refl, slice_get, Some}
 use Rattle.std.specs.List.{AllByRecursion}
 use Rattle.std.proofs.Common.{arith, ap, ◌∙◌, sym}
 use denote.Param.Weighed.{most}
@@ -50,3 +50,16 @@ AreTerms-push (u ∷ ts) t terms term = (terms.0, AreTerms-push ts t terms.1 ter
 pub most_le-deepest : (ts : List TermValue) → most (λ t. 2 * depth t + 1) ts ≤ 2 * deepest ts + 1
 most_le-deepest [] = omega arith
 most_le-deepest (t ∷ ts) = omega (arith, most_le-deepest ts)
+
+-- no term of a list is deeper than the deepest
+pub deepest_bounds : (ts : List TermValue) (place : ℕ) (t : TermValue) → slice_get ts place ≡ Some t → depth t ≤ deepest ts
+deepest_bounds [] place t e = cc
+deepest_bounds (u ∷ ts) zero t e = let d : depth u ≡ depth t = ap depth (let f : u ≡ t = cc in f) in omega arith
+deepest_bounds (u ∷ ts) (suc place) t e = let rest = deepest_bounds ts place t e in omega arith
+
+-- a part of a tuple or of a list has fewer levels than the whole
+pub depth-part_of_tuple : (ts : List TermValue) (place : ℕ) (t : TermValue) → slice_get ts place ≡ Some t → depth t < depth (tuple (chain ts nil))
+depth-part_of_tuple ts place t e = omega (arith, deepest_bounds ts place t e, parts_depth-chain ts)
+
+pub depth-part_of_list : (ts : List TermValue) (place : ℕ) (t : TermValue) → slice_get ts place ≡ Some t → depth t < depth (chain ts nil)
+depth-part_of_list ts place t e = omega (arith, deepest_bounds ts place t e, parts_depth-chain ts)
