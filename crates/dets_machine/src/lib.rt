@@ -11,3 +11,5 @@ mod command;
 mod machine;
 mod reply;
 mod table;
+#[cfg(test)]
+mod tests;

@@ -3,14 +3,13 @@ ghost use Rattle.std.specs.Prelude.{◌≡◌, ◌≤◌, [], true, false, IsErr
 ghost use Rattle.dets_term.specs.TermValue.{depth};
 ghost use Rattle.dets_machine.specs.State.{State};
 
+use crate::command::{Command, command_of};
+use crate::table::Table;
+use crate::{Memory, reply};
 use dets_term::Term;
 use host_model::Host;
 use std::alloc::Global;
 use std::marker::Model;
-
-use crate::command::{Command, command_of};
-use crate::table::Table;
-use crate::{Memory, reply};
 
 /// Why a command got no reply.
 #[derive(Clone, Copy, Debug, PartialEq, Eq)]

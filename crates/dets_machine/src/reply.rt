@@ -4,10 +4,9 @@ ghost use Rattle.std.specs.Option.{option_copied, option_to_list};
 ghost use Rattle.std.specs.Str.{chars};
 ghost use Rattle.dets_term.specs.TermValue.{atom, tuple, chain, nil, depth};
 
+use crate::Memory;
 use dets_term::{Term, TermFault, TermList};
 use std::alloc::Global;
-
-use crate::Memory;
 
 /// `{ok,table}`
 pub(crate) fn ok_table(alloc: Global) -> Result<Term, Memory> {

@@ -4,11 +4,10 @@ ghost use Rattle.std.specs.Prelude.{◌≡◌, ◌≤◌, ◌<◌, [], length, I
 ghost use Rattle.std.specs.Option.{option_copied};
 ghost use Rattle.dets_term.specs.TermValue.{depth};
 
+use crate::Memory;
 use dets_term::{Term, eq, key_of};
 use std::alloc::Global;
 use std::marker::Model;
-
-use crate::Memory;
 
 const KEYPOS: u32 = 1;
 
@@ -22,7 +21,6 @@ impl Model for Table {
     ghost use Rattle.std.specs.Prelude.{List, ◌≤◌};
     ghost use Rattle.std.specs.List.{AllByRecursion};
     ghost use Rattle.dets_term.specs.TermValue.{TermValue, depth};
-
     ghost use Rattle.std.specs.Coded.{coded_list};
     ghost use Rattle.dets_term.specs.TermCode.{coded_term};
 

@@ -2,3 +2,4 @@
 pub mod FeedInside
 pub mod FeedState
 pub mod Nest
+pub mod Printed

@@ -3,6 +3,7 @@ ghost use Rattle.term_text.specs.Nest.{IsStopped};
 
 use crate::TextFault;
 use crate::nest::{Bracket, Nest};
+use crate::printing::is_name_byte;
 use dets_term::{Term, Text};
 use std::alloc::Global;
 use std::mem;
@@ -89,7 +90,7 @@ impl Reader {
     /// Reads one byte.
     fn read(&mut self, alloc: Global, byte: u8) -> Result<(), TextFault> {
         match &mut self.token {
-            Token::Atom(name) if is_atom_byte(byte) => push_to_atom(name, byte)?,
+            Token::Atom(name) if is_name_byte(byte) => push_to_atom(name, byte)?,
             Token::Minus if byte.is_ascii_digit() => {
                 self.token = Token::Integer(Integer {
                     value: -digit_value(byte),
@@ -191,11 +192,6 @@ fn digit_value(digit: u8) -> i128
     ensures { result ≡ pos (digit - 48) }
 {
     i128::from(digit - b'0')
-}
-
-/// Whether a byte may go on with a plain atom.
-fn is_atom_byte(byte: u8) -> bool {
-    byte.is_ascii_alphanumeric() || byte == b'_' || byte == b'@'
 }
 
 /// Whether a byte may stand between two tokens.

@@ -1,0 +1,78 @@
+-- The printed form of a term, on one line with no white space. It is this project's own form, after the
+-- term syntax of the Erlang reference manual.
+use Rattle.std.specs.Prelude.{ℕ, Bool, true, false, ◌==◌, ◌&&◌, ◌||◌, not, if◌then◌else◌, List, [], ◌∷◌, ◌++◌, codes, encode_utf8}
+use Rattle.std.specs.List.{list_any, list_all, flat_map}
+use Rattle.std.specs.Char.{is_ascii_lowercase, is_ascii_alphanumeric, is_ascii_control}
+use Rattle.std.specs.Str.{bytes_eq}
+use Rattle.std.specs.Fmt.{digits, signed_decimal}
+use Rattle.dets_term.specs.TermValue.{TermValue, integer, atom, tuple, nil, cons}
+
+-- a letter from a to z or A to Z, a digit, `_` or `@`
+abbrev pub is_name_character : ℕ → Bool
+is_name_character c = is_ascii_alphanumeric c || c == 95 || c == 64
+
+-- a plain atom: a letter from a to z, then letters, digits, `_` and `@`
+abbrev pub is_plain_atom : List ℕ → Bool
+is_plain_atom [] = false
+is_plain_atom (c ∷ cs) = is_ascii_lowercase c && list_all is_name_character cs
+
+-- the reserved words of Erlang's syntax, which are atoms only in quotes
+abbrev pub reserved_words : List (List ℕ)
+reserved_words =
+    codes "after" ∷ codes "and" ∷ codes "andalso" ∷ codes "band" ∷ codes "begin" ∷ codes "bnot" ∷ codes "bor"
+    ∷ codes "bsl" ∷ codes "bsr" ∷ codes "bxor" ∷ codes "case" ∷ codes "catch" ∷ codes "cond" ∷ codes "div"
+    ∷ codes "else" ∷ codes "end" ∷ codes "fun" ∷ codes "if" ∷ codes "let" ∷ codes "maybe" ∷ codes "not"
+    ∷ codes "of" ∷ codes "or" ∷ codes "orelse" ∷ codes "receive" ∷ codes "rem" ∷ codes "try" ∷ codes "when"
+    ∷ codes "xor" ∷ []
+
+-- one of these words
+unfoldable pub is_reserved : List ℕ → Bool
+is_reserved name = list_any (bytes_eq name) reserved_words
+
+-- an atom that is printed without quotes
+abbrev pub is_unquoted : List ℕ → Bool
+is_unquoted name = is_plain_atom name && not (is_reserved name)
+
+-- A character in quotes. A backslash and a quote have a backslash before them, and the code points 0 to 31
+-- and 127 are \x{H}, with the code point in upper-case hexadecimal digits and no leading zero. All else stands
+-- as it is, in UTF-8.
+abbrev pub quoted_character : ℕ → List ℕ
+quoted_character c =
+    if c == 92 then codes "\\\\"
+    else (if c == 39 then codes "\\'"
+    else (if is_ascii_control c then codes "\\x{" ++ digits 16 true c ++ codes "}" else encode_utf8 c))
+
+-- an atom in quotes
+abbrev pub quoted_atom : List ℕ → List ℕ
+quoted_atom name = codes "'" ++ flat_map quoted_character name ++ codes "'"
+
+-- An atom: as it is where it needs no quotes, else in quotes. One that needs none is ASCII, so its code points
+-- are its bytes.
+abbrev pub printed_atom : List ℕ → List ℕ
+printed_atom name = if is_unquoted name then name else quoted_atom name
+
+abbrev mutual
+  -- A term. An integer is written in decimal, a list in brackets and a tuple in braces, with commas between
+  -- their elements. What an improper list ends in stands behind a bar.
+  pub printed : TermValue → List ℕ
+  printed (integer z) = signed_decimal z
+  printed (atom name) = printed_atom name
+  printed (tuple parts) = codes "{" ++ printed_elements (codes "}") parts
+  printed nil = codes "[]"
+  printed (cons first rest) = codes "[" ++ printed first ++ printed_after (codes "]") rest
+
+  -- The elements of a list, up to and with the bracket that closes it. A value that is no list has none.
+  pub printed_elements : List ℕ → TermValue → List ℕ
+  printed_elements closing (integer z) = closing
+  printed_elements closing (atom name) = closing
+  printed_elements closing (tuple parts) = closing
+  printed_elements closing nil = closing
+  printed_elements closing (cons first rest) = printed first ++ printed_after closing rest
+
+  -- what follows an element of a list, up to and with the bracket that closes it
+  pub printed_after : List ℕ → TermValue → List ℕ
+  printed_after closing (integer z) = codes "|" ++ signed_decimal z ++ closing
+  printed_after closing (atom name) = codes "|" ++ printed_atom name ++ closing
+  printed_after closing (tuple parts) = codes "|" ++ codes "{" ++ printed_elements (codes "}") parts ++ closing
+  printed_after closing nil = closing
+  printed_after closing (cons first rest) = codes "," ++ printed first ++ printed_after closing rest
