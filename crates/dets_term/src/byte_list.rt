@@ -37,6 +37,14 @@ impl ByteList {
         Ok(())
     }
 
+    /// Puts bytes last, in order. After `Memory` the list is as it was.
+    pub fn extend_from_slice(&mut self, items: &[u8]) -> Result<(), Memory>
+        ensures ok { OnOk result (self.new ≡ self.old ++ items.now) }
+        ensures err { OnErr result (self.new ≡ self.old) }
+    {
+        self.bytes.extend_from_slice(items)
+    }
+
     /// How many bytes there are.
     pub fn len(&self) -> usize
         ensures { result ≡ length self.now }

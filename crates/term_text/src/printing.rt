@@ -64,7 +64,7 @@ fn print_integer(out: &mut ByteList, value: i128) -> Result<(), Memory>
     ensures { OnOk result (out.new ≡ out.old ++ signed_decimal value) }
 {
     let mut buffer = Buffer::new();
-    push_all(out, buffer.format(value).as_bytes())
+    out.extend_from_slice(buffer.format(value).as_bytes())
 }
 
 fn print_atom(out: &mut ByteList, name: &str) -> Result<(), Memory>
@@ -72,7 +72,7 @@ fn print_atom(out: &mut ByteList, name: &str) -> Result<(), Memory>
 {
     let bytes = name.as_bytes();
     if is_plain_atom(bytes) && !is_reserved(bytes) {
-        push_all(out, bytes)
+        out.extend_from_slice(bytes)
     } else {
         print_quoted(out, name)
     }
@@ -123,13 +123,13 @@ fn print_quoted_character(out: &mut ByteList, character: char) -> Result<(), Mem
     ensures { OnOk result (out.new ≡ out.old ++ quoted_character character) }
 {
     if character == '\\' {
-        push_all(out, b"\\\\")
+        out.extend_from_slice(b"\\\\")
     } else if character == '\'' {
-        push_all(out, b"\\'")
+        out.extend_from_slice(b"\\'")
     } else if character.is_ascii_control() {
         print_code_point(out, character as u8)
     } else {
-        push_all(out, character.encode_utf8(&mut [0; 4]).as_bytes())
+        out.extend_from_slice(character.encode_utf8(&mut [0; 4]).as_bytes())
     }
 }
 
@@ -137,7 +137,7 @@ fn print_quoted_character(out: &mut ByteList, character: char) -> Result<(), Mem
 fn print_code_point(out: &mut ByteList, code: u8) -> Result<(), Memory>
     ensures { OnOk result (out.new ≡ out.old ++ (codes "\\x{" ++ digits 16 true code ++ codes "}")) }
 {
-    push_all(out, b"\\x{")?;
+    out.extend_from_slice(b"\\x{")?;
     print_hexadecimal(out, code)?;
     out.push(b'}')
 }
@@ -162,16 +162,6 @@ fn hexadecimal_digit(value: u8) -> u8
     } else {
         b'A' + (value - 10)
     }
-}
-
-/// Puts bytes last.
-fn push_all(out: &mut ByteList, bytes: &[u8]) -> Result<(), Memory>
-    ensures { OnOk result (out.new ≡ out.old ++ bytes.now) }
-{
-    for byte in bytes {
-        out.push(*byte)?;
-    }
-    Ok(())
 }
 
 #[cfg(test)]

@@ -9,7 +9,7 @@ returns-then-not-is_reserved c =
     let same = c.as_bytes-bytes.ensures.value in
     let plain : is_plain_atom c.args.name.now ≡ true = ap is_plain_atom (sym same) ∙ sym c.is_plain_atom.ensures ∙ c.if-is_plain_atom.true in
     let free : is_reserved c.args.name.now ≡ false = ap is_reserved (sym same) ∙ sym c.is_reserved.ensures ∙ c.if-not-is_reserved.true in
-    rw (printed_atom-plain c.args.name.now plain free) (rw same at c.push_all.ensures)
+    rw (printed_atom-plain c.args.name.now plain free) (rw same at c.extend_from_slice.ensures.ok)
 
 pub returns-else-is_plain_atom : goal.returns-else-is_plain_atom
 returns-else-is_plain_atom c =

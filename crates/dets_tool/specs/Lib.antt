@@ -1,0 +1,4 @@
+-- The definitions of this crate, one file for each idea.
+pub mod FeedValue
+pub mod Job
+pub mod Status

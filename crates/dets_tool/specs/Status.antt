@@ -1,0 +1,28 @@
+-- The code and the line of each end of a run. All of it is this project's own.
+use Rattle.std.specs.Prelude.{ℕ, List, [], ◌∷◌, ◌++◌, codes, decimal}
+use Rattle.dets_tool.specs.declared.status.Status.{Status}
+use Rattle.dets_tool.specs.declared.status.Status.TheVariants.{Done, Input, WordsRefused, SourceFault, Output, Memory, NotYet}
+
+-- the exit status
+abbrev pub code_of : Status → ℕ
+code_of Done = 0
+code_of (Input offset why) = 1
+code_of WordsRefused = 2
+code_of SourceFault = 4
+code_of Output = 5
+code_of Memory = 6
+code_of (NotYet command) = 9
+
+-- the program's name, and the line end behind the text
+abbrev pub said : List ℕ → List ℕ
+said text = codes "dets_tool: " ++ text ++ 10 ∷ []
+
+-- the line for standard error
+abbrev pub line_of : Status → List ℕ
+line_of Done = []
+line_of (Input offset why) = said (codes "input refused at " ++ decimal offset)
+line_of WordsRefused = said (codes "words refused")
+line_of SourceFault = said (codes "source fault")
+line_of Output = said (codes "output fault")
+line_of Memory = said (codes "out of memory")
+line_of (NotYet command) = said (codes "not yet at command " ++ decimal command)

@@ -1,0 +1,84 @@
+// What the words ask for.
+ghost use Rattle.std.specs.Prelude.{◌≡◌, ◌↔◌, None, Some, option_map, option_copied, IfOk, IsErrOf};
+ghost use Rattle.std.specs.Str.{chars};
+ghost use Rattle.dets_tool.specs.Job.{is_file, run_file, stated_job, path_of};
+
+use crate::{Memory, Words};
+use dets_term::Text;
+use std::alloc::Global;
+use thiserror::Error;
+
+/// What the program is to do.
+#[derive(Drop)]
+pub enum Job {
+    /// The input is a script, which is run on the table of this file.
+    Run(Text),
+}
+
+/// Why the words are not a job.
+#[derive(Debug, Drop, PartialEq, Eq, Error)]
+pub enum WordsFault {
+    /// The words have none of the stated forms.
+    #[error("words refused")]
+    Refused,
+    #[error("out of memory")]
+    Memory,
+}
+
+impl Job {
+    /// The file that the job works on. `None` where it works on none.
+    pub fn path(&self) -> Option<&str>
+        ensures { option_map (λ path. chars path) (option_copied result) ≡ path_of self.now }
+    {
+        match self {
+            Job::Run(file) => Some(file.as_str()),
+        }
+    }
+}
+
+/// What the words ask for: `run FILE`, where FILE is any word that is not empty and does not begin with `-`.
+/// `Refused`: exactly where the words have another form. `Memory`: no room for the text of the file.
+pub fn job_of(alloc: Global, words: &Words) -> Result<Job, WordsFault>
+    ensures ok { IfOk result (λ job. stated_job words.now ≡ Some job) }
+    ensures refused { IsErrOf result WordsFault.Refused ↔ (stated_job words.now ≡ None) }
+{
+    match file_of_run(words) {
+        None => Err(WordsFault::Refused),
+        Some(file) => match text_of(alloc, file) {
+            Ok(text) => Ok(Job::Run(text)),
+            Err(_) => Err(WordsFault::Memory),
+        },
+    }
+}
+
+// The file of `run FILE`, where the words have that form.
+fn file_of_run(words: &Words) -> Option<&str>
+    ensures { option_copied result ≡ run_file words.now }
+{
+    if words.len() != 2 || words.at(0) != "run" {
+        return None;
+    }
+    let file = words.at(1);
+    if is_file(file) { Some(file) } else { None }
+}
+
+// Whether a word may stand for a file.
+fn is_file(word: &str) -> bool
+    ensures { result ≡ is_file word.now }
+{
+    match word.as_bytes() {
+        [] => false,
+        [first, ..] => *first != b'-',
+    }
+}
+
+// A text of the characters of a word.
+fn text_of(alloc: Global, word: &str) -> Result<Text, Memory>
+    ensures { IfOk result (λ text. text ≡ chars word.now) }
+{
+    let mut text = Text::new(alloc);
+    for item in word.chars() {
+        text.push(item)?;
+    }
+    Ok(text)
+}

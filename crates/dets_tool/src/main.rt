@@ -1,0 +1,30 @@
+//! The program: `dets_tool run FILE` reads a script of commands from standard input and writes a reply to each.
+//!
+//! Stands on `host_model` for what is read and said, `term_text` for text, and `dets_machine` for the commands.
+//! `dets_main` is the whole program over any source and any host; `main` hands it the real ones. `job_of` accepts
+//! exactly the stated words, `InputFeed` takes the input within a budget, and `Status` says the code and the line
+//! of each end.
+#![tactic(auto)]
+
+mod input_feed;
+mod job;
+mod program;
+mod script;
+mod status;
+mod words;
+
+pub use input_feed::{InputFeed, Piece, PullFault};
+pub use job::{Job, WordsFault, job_of};
+pub use program::dets_main;
+pub use status::{InputWhy, Status};
+pub use std::alloc::AllocError as Memory;
+pub use words::Words;
+
+use std::process::ExitCode;
+
+#[cfg(test)]
+mod tests;
+
+fn main(rt: HostRuntime) -> ExitCode {
+    ExitCode::from(program::run_program(&rt))
+}

@@ -1,0 +1,69 @@
+//! The program over any source and host, and over the real ones.
+use host_model::{FileHost, Host, Source, StdSource};
+use std::alloc::Global;
+use std::env;
+use std::env::Env;
+use std::io::ErrorKind;
+use std::rt::Runtime;
+use std::str;
+
+use crate::{Job, Status, Words, WordsFault, job_of, script};
+
+/// Does what the words ask for: `run FILE` reads a script from the source and puts the reply to each command,
+/// with a full stop and a line end, in one piece.
+pub fn dets_main<S: Source, H: Host>(alloc: Global, words: &Words, source: &mut S, host: &mut H) -> Status {
+    match job_of(alloc, words) {
+        Ok(Job::Run(_)) => script::run(alloc, source, host),
+        Err(WordsFault::Refused) => Status::WordsRefused,
+        Err(WordsFault::Memory) => Status::Memory,
+    }
+}
+
+/// Runs the program with the words that it was called with, over standard input and output. Gives its exit status.
+pub(crate) fn run_program<R: Runtime + AllocGlobal>(rt: &R) -> u8 {
+    let status = match words_of(rt) {
+        Ok(words) => run_words(rt, &words),
+        Err(status) => status,
+    };
+    say(rt, &status);
+    status.code()
+}
+
+/// The words behind the program's own name. The runtime refuses all of them where one is not UTF-8.
+fn words_of<R: Env + AllocGlobal>(rt: &R) -> Result<Words, Status> {
+    let all = match env::args(rt) {
+        Ok(all) => all,
+        Err(error) if error.kind() == ErrorKind::OutOfMemory => return Err(Status::Memory),
+        Err(_) => return Err(Status::WordsRefused),
+    };
+    let mut words = Words::new(rt.alloc());
+    for word in all.skip(1) {
+        words.push(word.as_str())?;
+    }
+    Ok(words)
+}
+
+/// Does what the words ask for, over standard input and output.
+fn run_words<R: Runtime + AllocGlobal>(rt: &R, words: &Words) -> Status {
+    let job = job_of(rt.alloc(), words);
+    let path = match &job {
+        Ok(job) => job.path(),
+        Err(_) => None,
+    };
+    let Ok(mut source) = StdSource::new(rt) else {
+        return Status::Memory;
+    };
+    let Ok(mut host) = FileHost::new(rt, rt.alloc(), path) else {
+        return Status::Memory;
+    };
+    dets_main(rt.alloc(), words, &mut source, &mut host)
+}
+
+/// Writes the line of a status to standard error. What goes wrong there changes nothing.
+fn say<R: Eprint + AllocGlobal>(rt: &R, status: &Status) {
+    if let Ok(line) = status.line(rt.alloc())
+        && let Ok(text) = str::from_utf8(line.as_slice())
+    {
+        let _ = rt.eprint(text);
+    }
+}
