@@ -155,7 +155,11 @@ fn wanted_bytes(room: u64) -> usize
 }
 
 // Reads at most so many bytes to the front of a buffer.
-fn read_front<S: Source>(source: &mut S, buffer: &mut [u8], wanted: usize) -> Result<usize, SourceFailed>
+fn read_front<S: Source>(
+    source: &mut S,
+    buffer: &mut [u8],
+    wanted: usize,
+) -> Result<usize, SourceFailed>
     requires some { 0 < wanted }
     requires there { wanted ≤ length buffer.old }
     ensures fits { IfOk result (λ n. n ≤ wanted) }

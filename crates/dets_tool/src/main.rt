@@ -18,9 +18,8 @@ pub use job::{Job, WordsFault, job_of};
 pub use program::dets_main;
 pub use status::{InputWhy, Status};
 pub use std::alloc::AllocError as Memory;
-pub use words::Words;
-
 use std::process::ExitCode;
+pub use words::Words;
 
 #[cfg(test)]
 mod tests;

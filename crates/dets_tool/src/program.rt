@@ -1,17 +1,20 @@
 //! The program over any source and host, and over the real ones.
+use crate::{Job, Status, Words, WordsFault, job_of, script};
 use host_model::{FileHost, Host, Source, StdSource};
 use std::alloc::Global;
-use std::env;
 use std::env::Env;
 use std::io::ErrorKind;
 use std::rt::Runtime;
-use std::str;
-
-use crate::{Job, Status, Words, WordsFault, job_of, script};
+use std::{env, str};
 
 /// Does what the words ask for: `run FILE` reads a script from the source and puts the reply to each command,
 /// with a full stop and a line end, in one piece.
-pub fn dets_main<S: Source, H: Host>(alloc: Global, words: &Words, source: &mut S, host: &mut H) -> Status {
+pub fn dets_main<S: Source, H: Host>(
+    alloc: Global,
+    words: &Words,
+    source: &mut S,
+    host: &mut H,
+) -> Status {
     match job_of(alloc, words) {
         Ok(Job::Run(_)) => script::run(alloc, source, host),
         Err(WordsFault::Refused) => Status::WordsRefused,
@@ -67,3 +70,6 @@ fn say<R: Eprint + AllocGlobal>(rt: &R, status: &Status) {
         let _ = rt.eprint(text);
     }
 }
+
+#[cfg(test)]
+mod tests;

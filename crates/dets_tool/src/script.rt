@@ -3,13 +3,12 @@ ghost use Rattle.std.specs.Prelude.{◌≡◌, ◌≤◌, ◌<◌, ◌+◌, ◌^
 ghost use Rattle.term_text.specs.FeedState.{total};
 ghost use Rattle.dets_tool.specs.declared.input_feed.FeedState.TheVariants.{Reading};
 
+use crate::{InputFeed, InputWhy, Memory, Piece, PullFault, Status};
 use dets_machine::{Machine, Stop};
 use dets_term::Term;
 use host_model::{Host, Source};
 use std::alloc::Global;
 use term_text::{Fed, TextFault, TextFeed, print};
-
-use crate::{InputFeed, InputWhy, Memory, Piece, PullFault, Status};
 
 /// A run takes at most this many bytes of input.
 const BUDGET: u64 = 4_294_967_296;
@@ -58,7 +57,11 @@ impl Script {
     }
 
     /// Reads the input to its end and serves its commands. The status says what ended the run before.
-    fn serve_input<S: Source, H: Host>(&mut self, source: &mut S, host: &mut H) -> Result<(), Status>
+    fn serve_input<S: Source, H: Host>(
+        &mut self,
+        source: &mut S,
+        host: &mut H,
+    ) -> Result<(), Status>
         requires { self.old.text ≡ record { left = []; offset = 0; finished = false; refused = false } }
     {
         let mut input = InputFeed::new(self.alloc, BUDGET)?;

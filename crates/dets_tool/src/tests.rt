@@ -121,9 +121,21 @@ fn each_end_has_its_code_and_its_line(rt: HostRuntime) -> Result<(), Fail> {
 #[test]
 fn the_faults_say_what_they_are(rt: HostRuntime) -> Result<(), Fail> {
     let alloc = rt.alloc();
-    assert_eq!(rt; WordsFault::Refused.to_string(alloc)?.as_str(), "words refused");
-    assert_eq!(rt; WordsFault::Memory.to_string(alloc)?.as_str(), "out of memory");
-    assert_eq!(rt; PullFault::SourceFault.to_string(alloc)?.as_str(), "source fault");
-    assert_eq!(rt; PullFault::TooMuch.to_string(alloc)?.as_str(), "too much input");
+    assert_eq!(rt;
+        WordsFault::Refused.to_string(alloc)?.as_str(),
+        "words refused"
+    );
+    assert_eq!(rt;
+        WordsFault::Memory.to_string(alloc)?.as_str(),
+        "out of memory"
+    );
+    assert_eq!(rt;
+        PullFault::SourceFault.to_string(alloc)?.as_str(),
+        "source fault"
+    );
+    assert_eq!(rt;
+        PullFault::TooMuch.to_string(alloc)?.as_str(),
+        "too much input"
+    );
     Ok(())
 }
