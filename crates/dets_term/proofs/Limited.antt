@@ -1,9 +1,9 @@
 -- What an answer of `limited` says of the limits, and of the answer for another value.
-use Rattle.std.proofs.Common.{◌≡◌, ℕ, suc, ◌<◌, ◌≤◌, ◌^◌, Bool, true, false, cond, nat_lt, nat_le, Result, Ok, Err, MatchResult, List, length, refl, ap, ◌∙◌, sym, arith, IsErrAnd}
+use Rattle.std.proofs.Common.{◌≡◌, ℕ, suc, ◌<◌, ◌≤◌, ◌^◌, Bool, true, false, cond, nat_lt, nat_le, Ok, Err, refl, ap, ◌∙◌, sym}
 use Rattle.std.proofs.lemmas.Bool.{ltb-true, leb-true}
 use Rattle.dets_term.specs.declared.term.TermFault.{TermFault}
 use Rattle.dets_term.specs.declared.term.TermFault.TheVariants.{Depth, ManyParts}
-use Rattle.dets_term.specs.TermValue.{TermValue, parts_depth, depth}
+use Rattle.dets_term.specs.TermValue.{TermValue, parts_depth}
 use Rattle.dets_term.specs.IsTerm.{limited, built}
 
 picked_ok : {A : Type 0} (few shallow : Bool) (x y : A) → cond few (cond shallow (Ok x) (Err Depth)) (Err ManyParts) ≡ Ok y → (few ≡ true) × (shallow ≡ true) × (x ≡ y)

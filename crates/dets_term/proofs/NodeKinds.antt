@@ -1,9 +1,9 @@
 -- Which node a value comes from.
-use Rattle.std.proofs.Common.{zero, suc, ◌<◌, ◌-◌, arith, slice_get, Option, Some, None, ◌≡◌, ℕ, Bool, true, false, IsTrue, ◌↔◌, List, [], ◌∷◌, refl, ap, ◌∙◌, sym}
+use Rattle.std.proofs.Common.{zero, suc, ◌<◌, ◌-◌, arith, slice_get, None, ◌≡◌, ℕ, Bool, IsTrue, ◌↔◌, List, [], ◌∷◌, refl, ap, ◌∙◌, sym}
 use Rattle.dets_term.specs.declared.term.Node.{Node}
 use Rattle.dets_term.specs.declared.term.Node.TheVariants.{Int, Atom, Tuple, List as ListNode}
 use Rattle.std.specs.Prelude.{ℤ}
-use Rattle.dets_term.specs.TermValue.{TermValue, integer, atom, tuple, nil, cons, chain, elements, key}
+use Rattle.dets_term.specs.TermValue.{TermValue, integer, atom, tuple, nil, chain, elements, key}
 use Rattle.dets_term.specs.Parts.{elements-chain}
 use Rattle.dets_term.specs.Node.{shown}
 

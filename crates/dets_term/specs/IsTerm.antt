@@ -1,10 +1,10 @@
 -- Which values are terms: the limits on depth, sizes, atoms and integers.
-use Rattle.std.specs.Prelude.{◌≡◌, ℕ, ℤ, ◌<◌, ◌≤◌, ◌^◌, true, cond, nat_lt, nat_le, Result, Ok, Err, List, length, FitsSigned}
+use Rattle.std.specs.Prelude.{◌≡◌, ℕ, ◌<◌, ◌≤◌, ◌^◌, true, cond, nat_lt, nat_le, Result, Ok, Err, length, FitsSigned}
 use Rattle.std.specs.Int.{w128}
 use Rattle.std.specs.Str.{all_scalars}
 use Rattle.dets_term.specs.declared.term.TermFault.{TermFault}
 use Rattle.dets_term.specs.declared.term.TermFault.TheVariants.{Depth, ManyParts}
-use Rattle.dets_term.specs.TermValue.{TermValue, integer, atom, tuple, nil, cons, elements, is_list, depth}
+use Rattle.dets_term.specs.TermValue.{TermValue, integer, atom, tuple, nil, cons, elements, depth}
 
 -- a proper list: it ends in nil
 abbrev pub IsProper : TermValue → Type 0

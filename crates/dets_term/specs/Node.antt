@@ -1,5 +1,4 @@
 -- What a node shows: the value of the term that it is.
-use Rattle.std.specs.Prelude.{List}
 use Rattle.dets_term.specs.declared.term.Node.{Node}
 use Rattle.dets_term.specs.declared.term.Node.TheVariants.{Int, Atom, Tuple, List as ListNode}
 use Rattle.dets_term.specs.TermValue.{TermValue, integer, atom, tuple, nil, chain}

@@ -1,10 +1,10 @@
 -- What a node holds is smaller than the term that it is.
-use Rattle.std.specs.Prelude.{◌≡◌, ℕ, ◌+◌, ◌*◌, ◌≤◌, max}
+use Rattle.std.specs.Prelude.{◌*◌, ◌≤◌, max}
 use Rattle.std.proofs.Common.{arith}
 use Rattle.dets_term.specs.declared.term.Node.{Node}
 use Rattle.dets_term.specs.declared.term.Node.TheVariants.{Int, Atom, Tuple, List as ListNode}
 use Rattle.dets_term.specs.declared.term.Term.TheDeep.{deep-Node}
-use Rattle.dets_term.specs.TermValue.{TermValue, depth}
+use Rattle.dets_term.specs.TermValue.{depth}
 use Rattle.dets_term.specs.Node.{shown}
 use Rattle.dets_term.specs.Parts.{parts_depth-chain}
 

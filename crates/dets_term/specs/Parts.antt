@@ -1,9 +1,9 @@
 -- The deepest of a list of terms, and what a chain of them is as a list.
 use Rattle.std.specs.Prelude.{◌≡◌, ℕ, zero, suc, ◌+◌, ◌*◌, ◌<◌, ◌≤◌, ◌^◌, true, cond, max, List, [], ◌∷◌, ◌++◌, length, refl, slice_get, Some}
 use Rattle.std.specs.List.{AllByRecursion}
-use Rattle.std.proofs.Common.{arith, ap, ◌∙◌, sym}
+use Rattle.std.proofs.Common.{arith, ap, ◌∙◌}
 use denote.Param.Weighed.{most}
-use Rattle.dets_term.specs.TermValue.{TermValue, integer, atom, tuple, nil, cons, chain, elements, is_list, parts_depth, depth}
+use Rattle.dets_term.specs.TermValue.{TermValue, tuple, nil, chain, elements, is_list, parts_depth, depth}
 use Rattle.dets_term.specs.IsTerm.{IsTerm, IsProper, IsBounded}
 
 -- the greatest depth in a list of terms, 0 where it is empty

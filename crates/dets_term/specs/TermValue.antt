@@ -1,7 +1,7 @@
 -- Terms as mathematical values: the data types of the External Term Format chapter of the ERTS User's
 -- Guide, as far as they are built. A list is its first element and what follows it, so an improper list
 -- needs no case of its own, and a tuple holds the list of its elements.
-use Rattle.std.specs.Prelude.{ℕ, zero, suc, ℤ, Bool, true, false, cond, max, List, [], ◌∷◌, slice_get, Option, Some, None}
+use Rattle.std.specs.Prelude.{ℕ, zero, suc, ℤ, Bool, true, false, cond, max, List, [], ◌∷◌, slice_get, Option, None}
 
 pub data TermValue : Type 0 where
   integer : ℤ → TermValue

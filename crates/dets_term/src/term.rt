@@ -1,4 +1,4 @@
-ghost use Rattle.std.specs.Prelude.{suc, ◌≡◌, ◌<◌, ◌≤◌, ◌*◌, ◌+◌, ◌↔◌, length, IsTrue, IfOk, IfErr, IsErrOf, ◌⊎◌};
+ghost use Rattle.std.specs.Prelude.{suc, ◌≡◌, ◌<◌, ◌*◌, ◌+◌, ◌↔◌, length, IsTrue, IfOk, IfErr, IsErrOf, ◌⊎◌};
 ghost use Rattle.std.specs.Option.{option_copied};
 ghost use Rattle.std.specs.Str.{chars};
 ghost use Rattle.dets_term.specs.TermValue.{integer, atom, tuple, nil, chain, depth, key};

@@ -1,7 +1,6 @@
 //! A script of commands, run as its input comes.
-ghost use Rattle.std.specs.Prelude.{◌≡◌, ◌≤◌, ◌<◌, ◌+◌, ◌^◌, [], false, length};
+ghost use Rattle.std.specs.Prelude.{◌≡◌, ◌≤◌, ◌<◌, ◌+◌, ◌^◌, [], false};
 ghost use Rattle.term_text.specs.FeedState.{total};
-ghost use Rattle.dets_tool.specs.declared.input_feed.FeedState.TheVariants.{Reading};
 
 use crate::{InputFeed, InputWhy, Memory, Piece, PullFault, Status};
 use dets_machine::{Machine, Stop};

@@ -1,5 +1,5 @@
 // How a run ends.
-ghost use Rattle.std.specs.Prelude.{◌≡◌, [], ◌∷◌, ◌++◌, decimal, codes, IfOk, OnOk};
+ghost use Rattle.std.specs.Prelude.{◌≡◌, [], ◌∷◌, ◌++◌, decimal, codes, IfOk};
 ghost use Rattle.dets_tool.specs.Status.{code_of, line_of};
 ghost use Rattle.dets_tool.specs.declared.status.Status.TheVariants.{Memory as OutOfMemory};
 

@@ -1,4 +1,4 @@
-ghost use Rattle.std.specs.Prelude.{◌≡◌, ◌<◌, ◌≤◌, ◌+◌, ◌^◌, ℕ, List, [], ◌++◌, length, drop, true, false, IsTrue, IsErrOf, IsNone, ◌↔◌, OnOk, OnErr, vec_len};
+ghost use Rattle.std.specs.Prelude.{◌≡◌, ◌<◌, ◌≤◌, ◌+◌, ◌^◌, ℕ, [], ◌++◌, length, drop, true, false, IsTrue, IsErrOf, IsNone, ◌↔◌, OnOk, OnErr, vec_len};
 ghost use Rattle.dets_term.specs.TermValue.{TermValue};
 ghost use Rattle.term_text.specs.FeedState.{Takes, total};
 ghost use Rattle.term_text.specs.declared.feed.TextFault.TheVariants.{Memory as OutOfMemory};

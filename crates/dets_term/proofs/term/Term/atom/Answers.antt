@@ -1,6 +1,5 @@
-use Rattle.std.proofs.Common.{◌≡◌, ◌<◌, sym, ◌∙◌, ap, refl, length, arith}
+use Rattle.std.proofs.Common.{refl, arith}
 use Rattle.std.proofs.lemmas.Result.{err_from_is_err_and}
-use Rattle.std.specs.Str.{all_scalars}
 use Rattle.dets_term.proofs.Texts.{all_scalars-chars}
 use Rattle.dets_term.proofs.term.Term.atom.Goals as goal
 

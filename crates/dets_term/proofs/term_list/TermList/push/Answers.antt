@@ -1,5 +1,4 @@
-use Rattle.std.proofs.Common.{◌≡◌, ap, ◌∙◌, sym, max, arith}
-use Rattle.dets_term.specs.Parts.{deepest, deepest-push, AreTerms, AreTerms-push}
+use Rattle.dets_term.specs.Parts.{deepest-push, AreTerms-push}
 use Rattle.dets_term.proofs.term_list.TermList.push.Goals as goal
 
 pub invariant_of-self-2 : goal.invariant_of-self-2
