@@ -11,7 +11,7 @@ use Rattle.dets_tool.specs.declared.input_feed.PullFault.TheVariants.{SourceFaul
 pub record FeedValue : Type 0 where
   -- how many bytes are left of the budget
   pub room : ℕ
-  -- the bytes of the last read; none after the end and past the budget
+  -- the bytes of the last read that gave some; none after the end and past the budget
   pub piece : List ℕ
   pub state : FeedState
 

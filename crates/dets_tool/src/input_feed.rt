@@ -36,8 +36,11 @@ pub enum PullFault {
 /// Whether a feed still reads.
 #[derive(Clone, Copy)]
 pub enum FeedState {
+    /// The next pull makes a read.
     Reading,
+    /// A read gave no bytes.
     Ended,
+    /// A read gave a byte past the budget.
     TooMuch,
 }
 
@@ -50,6 +53,7 @@ pub struct InputFeed {
     spare: Vec<u8>,
     // How many bytes the last piece has.
     filled: usize,
+    // How many bytes are left of the budget.
     room: u64,
     state: FeedState,
 }
@@ -86,7 +90,8 @@ impl InputFeed {
         })
     }
 
-    /// The bytes of the last read, after a pull that answered `Bytes` and until the next pull. No bytes before.
+    /// The bytes of the last pull that answered `Bytes`: from 1 to 4,096. No bytes before the first such pull, and
+    /// after one that answered `End` or `TooMuch`.
     pub fn piece(&self) -> &[u8]
         ensures { result.now ≡ self.now.piece }
     {

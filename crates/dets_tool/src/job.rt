@@ -21,6 +21,7 @@ pub enum WordsFault {
     /// The words have none of the stated forms.
     #[error("words refused")]
     Refused,
+    /// There was no room for the text of a word.
     #[error("out of memory")]
     Memory,
 }

@@ -1,6 +1,6 @@
 // How a run ends.
-ghost use Rattle.std.specs.Prelude.{◌≡◌, [], ◌∷◌, ◌++◌, decimal, codes, IfOk};
-ghost use Rattle.dets_tool.specs.Status.{code_of, line_of};
+ghost use Rattle.std.specs.Prelude.{◌≡◌, ◌++◌, decimal, IfOk};
+ghost use Rattle.dets_tool.specs.Status.{code_of, line_of, said};
 ghost use Rattle.dets_tool.specs.declared.status.Status.TheVariants.{Memory as OutOfMemory};
 
 use crate::Memory;
@@ -21,6 +21,7 @@ pub enum Status {
     SourceFault,
     /// A write of the output failed.
     Output,
+    /// There was no memory.
     Memory,
     /// So many commands were replied to, and the next one is not built yet.
     NotYet(u64),
@@ -75,7 +76,7 @@ impl Status {
 
 // The line that says this text.
 fn plain_line(alloc: Global, text: &[u8]) -> Result<ByteList, Memory>
-    ensures { IfOk result (λ line. line ≡ codes "dets_tool: " ++ text.now ++ 10 ∷ []) }
+    ensures { IfOk result (λ line. line ≡ said text.now) }
 {
     let mut line = ByteList::new(alloc);
     line.extend_from_slice(b"dets_tool: ")?;
@@ -84,15 +85,12 @@ fn plain_line(alloc: Global, text: &[u8]) -> Result<ByteList, Memory>
     Ok(line)
 }
 
-// The line that says this text and a number behind it.
+// The line that says this text and the number behind it.
 fn numbered_line(alloc: Global, text: &[u8], number: u64) -> Result<ByteList, Memory>
-    ensures { IfOk result
-        (λ line. line ≡ codes "dets_tool: " ++ text.now ++ decimal number ++ 10 ∷ []) }
+    ensures { IfOk result (λ line. line ≡ said (text.now ++ decimal number)) }
 {
-    let mut line = ByteList::new(alloc);
-    line.extend_from_slice(b"dets_tool: ")?;
-    line.extend_from_slice(text)?;
-    line.extend_from_slice(Buffer::new().format(number).as_bytes())?;
-    line.push(b'\n')?;
-    Ok(line)
+    let mut whole = ByteList::new(alloc);
+    whole.extend_from_slice(text)?;
+    whole.extend_from_slice(Buffer::new().format(number).as_bytes())?;
+    plain_line(alloc, whole.as_slice())
 }
