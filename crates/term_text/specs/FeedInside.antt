@@ -1,5 +1,5 @@
 -- What holds of the fields of a feed.
-use Rattle.std.specs.Prelude.{ℕ, ◌+◌, ◌<◌, ◌≤◌, ◌^◌, length, drop}
+use Rattle.std.specs.Prelude.{◌+◌, ◌<◌, ◌≤◌, ◌^◌, length, drop}
 use Rattle.term_text.specs.declared.feed.TextFeed.TheInside.{Inside}
 use Rattle.term_text.specs.Nest.{IsStopped}
 

@@ -1,6 +1,5 @@
-use Rattle.std.proofs.Common.{◌≡◌, ◌+◌, ◌-◌, ◌<◌, ◌≤◌, ℕ, zero, suc, List, length, drop, refl, ap, sym, ◌∙◌, subst, arith}
+use Rattle.std.proofs.Common.{◌≡◌, ◌+◌, ◌-◌, ◌<◌, ◌≤◌, ℕ, zero, suc, length, drop, refl, ap, sym, ◌∙◌, subst, arith}
 use Rattle.std.proofs.lemmas.List.{drop-drop, length-drop}
-use Rattle.term_text.specs.FeedState.{FeedState, Takes}
 use Rattle.term_text.specs.Nest.{IsStopped}
 use Rattle.term_text.specs.declared.reader.Reader.{Reader}
 use Rattle.term_text.proofs.feed.TextFeed.read_on.Goals as goal
