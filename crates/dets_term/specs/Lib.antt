@@ -5,3 +5,4 @@ pub mod IsTerm
 pub mod Node
 pub mod Parts
 pub mod NodeFalls
+pub mod Same

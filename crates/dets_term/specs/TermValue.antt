@@ -1,7 +1,9 @@
 -- Terms as mathematical values: the data types of the External Term Format chapter of the ERTS User's
 -- Guide, as far as they are built. A list is its first element and what follows it, so an improper list
 -- needs no case of its own, and a tuple holds the list of its elements.
-use Rattle.std.specs.Prelude.{ℕ, zero, suc, ℤ, Bool, true, false, cond, max, List, [], ◌∷◌, slice_get, Option, None}
+use Rattle.std.specs.Ordering.{int_eq}
+use Rattle.std.specs.Str.{bytes_eq}
+use Rattle.std.specs.Prelude.{ℕ, zero, suc, ℤ, Bool, true, false, cond, ◌&&◌, max, List, [], ◌∷◌, slice_get, Option, None}
 
 pub data TermValue : Type 0 where
   integer : ℤ → TermValue
@@ -54,3 +56,31 @@ key (tuple parts) zero = None
 key (tuple parts) (suc place) = slice_get (elements parts) place
 key nil keypos = None
 key (cons first rest) keypos = None
+
+-- Whether two values are equal.
+abbrev pub is_same : TermValue → TermValue → Bool
+is_same (integer y) (integer z) = int_eq y z
+is_same (integer y) (atom b) = false
+is_same (integer y) (tuple u) = false
+is_same (integer y) nil = false
+is_same (integer y) (cons u us) = false
+is_same (atom a) (integer z) = false
+is_same (atom a) (atom b) = bytes_eq a b
+is_same (atom a) (tuple u) = false
+is_same (atom a) nil = false
+is_same (atom a) (cons u us) = false
+is_same (tuple t) (integer z) = false
+is_same (tuple t) (atom b) = false
+is_same (tuple t) (tuple u) = is_same t u
+is_same (tuple t) nil = false
+is_same (tuple t) (cons u us) = false
+is_same nil (integer z) = false
+is_same nil (atom b) = false
+is_same nil (tuple u) = false
+is_same nil nil = true
+is_same nil (cons u us) = false
+is_same (cons t ts) (integer z) = false
+is_same (cons t ts) (atom b) = false
+is_same (cons t ts) (tuple u) = false
+is_same (cons t ts) nil = false
+is_same (cons t ts) (cons u us) = is_same t u && is_same ts us

@@ -6,12 +6,16 @@
 #![tactic(auto)]
 
 pub use byte_list::ByteList;
+pub use kind::Kind;
+pub use laws::same_decides;
 pub use std::alloc::AllocError as Memory;
 pub use term::{Node, Term, TermFault, eq, key_of};
 pub use term_list::TermList;
 pub use text::Text;
 
 mod byte_list;
+mod kind;
+mod laws;
 mod term;
 mod term_list;
 #[cfg(test)]

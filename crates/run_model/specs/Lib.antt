@@ -1,0 +1,5 @@
+-- The definitions of this crate, one file for each idea.
+pub mod Command
+pub mod State
+pub mod Step
+pub use Rattle.table_model.specs.Table

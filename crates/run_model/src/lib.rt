@@ -1,0 +1,7 @@
+//! Definitions of a run, which the crates above cite: states, commands, the step of a command, and the replies of a
+//! list of commands. It stands on `table_model`, and compares the definitions with worked rows.
+#![tactic(auto)]
+
+pub use rows::a_set_is_opened_filled_and_looked_up;
+
+mod rows;

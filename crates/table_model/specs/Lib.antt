@@ -1,0 +1,2 @@
+-- The definitions of this crate, one file for each idea.
+pub mod Table

@@ -1,0 +1,7 @@
+//! Definitions of what a table is, which the crates above cite: its kind, its objects, and what each operation
+//! makes of them. It stands on `dets_term`, and promises laws of these definitions.
+#![tactic(auto)]
+
+pub use laws::a_set_has_one_object_of_a_key;
+
+mod laws;
