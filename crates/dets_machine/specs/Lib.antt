@@ -1,3 +1,4 @@
 -- The definitions of this crate, one file for each idea.
 pub mod Command
-pub mod State
+pub mod MachineValue
+pub mod Objects

@@ -1,36 +1,38 @@
 //! The replies to commands.
-ghost use Rattle.std.specs.Prelude.{◌≡◌, ◌≤◌, length, IfOk, IfErr, IfSome};
-ghost use Rattle.std.specs.Option.{option_copied, option_to_list};
+ghost use Rattle.std.specs.Prelude.{◌≡◌, ◌≤◌, length, IfOk, IfErr};
 ghost use Rattle.std.specs.Str.{chars};
-ghost use Rattle.dets_term.specs.TermValue.{atom, tuple, chain, nil, depth};
+ghost use Rattle.dets_term.specs.TermValue.{atom, chain, nil};
+ghost use Rattle.dets_term.specs.Parts.{deepest};
+ghost use Rattle.run_model.specs.Step.{ok, ok_table};
 
 use crate::Memory;
 use dets_term::{Term, TermFault, TermList};
 use std::alloc::Global;
 
 /// `{ok,table}`
-pub(crate) fn ok_table(alloc: Global) -> Result<Term, Memory> {
+pub(crate) fn ok_table(alloc: Global) -> Result<Term, Memory>
+    ensures { IfOk result (λ reply. reply ≡ ok_table) }
+{
     let mut parts = TermList::new(alloc);
-    parts.push(word(alloc, "ok")?)?;
+    parts.push(ok(alloc)?)?;
     parts.push(word(alloc, "table")?)?;
     built(Term::tuple(parts))
 }
 
 /// `ok`
-pub(crate) fn ok(alloc: Global) -> Result<Term, Memory> {
+pub(crate) fn ok(alloc: Global) -> Result<Term, Memory>
+    ensures { IfOk result (λ reply. reply ≡ ok) }
+{
     word(alloc, "ok")
 }
 
-/// The objects of a key: none or one.
-pub(crate) fn objects(alloc: Global, found: Option<&Term>) -> Result<Term, Memory>
-    requires { IfSome (option_copied found) (λ object. depth object ≤ 255) }
-    ensures { IfOk result (λ reply. reply ≡ chain (option_to_list (option_copied found.entry)) nil) }
+/// The list of the objects of a key, none or one.
+pub(crate) fn list(found: TermList) -> Result<Term, Memory>
+    requires few { length found ≤ 1 }
+    requires shallow { deepest found ≤ 255 }
+    ensures { IfOk result (λ reply. reply ≡ chain found nil) }
 {
-    let mut parts = TermList::new(alloc);
-    if let Some(object) = found {
-        parts.push(object.copy(alloc)?)?;
-    }
-    built(Term::list(parts))
+    built(Term::list(found))
 }
 
 /// The atom of a short word.

@@ -1,11 +1,13 @@
 //! The objects of a set with keypos 1, in memory. This plain body looks through all of them; the table over a
 //! file takes its place.
-ghost use Rattle.std.specs.Prelude.{◌≡◌, ◌≤◌, ◌<◌, [], length, IfSome, OnErr};
-ghost use Rattle.std.specs.Option.{option_copied};
-ghost use Rattle.dets_term.specs.TermValue.{depth};
+ghost use Rattle.std.specs.Prelude.{◌≡◌, ◌≤◌, [], length, filter, not, IfOk, OnOk};
+ghost use Rattle.dets_term.specs.TermValue.{depth, key};
+ghost use Rattle.dets_term.specs.Parts.{deepest};
+ghost use Rattle.dets_term.specs.declared.kind.Kind.TheVariants.{Set};
+ghost use Rattle.table_model.specs.Table.{has_key, shares_key, with_object};
 
 use crate::Memory;
-use dets_term::{Term, eq, key_of};
+use dets_term::{Term, TermList, eq, key_of};
 use std::alloc::Global;
 use std::marker::Model;
 
@@ -18,11 +20,11 @@ pub(crate) struct Table {
 }
 
 impl Model for Table {
-    ghost use Rattle.std.specs.Prelude.{List, ◌≤◌};
-    ghost use Rattle.std.specs.List.{AllByRecursion};
-    ghost use Rattle.dets_term.specs.TermValue.{TermValue, depth};
+    ghost use Rattle.std.specs.Prelude.{List};
+    ghost use Rattle.dets_term.specs.TermValue.{TermValue};
     ghost use Rattle.std.specs.Coded.{coded_list};
     ghost use Rattle.dets_term.specs.TermCode.{coded_term};
+    ghost use Rattle.dets_machine.specs.Objects.{AreOfSet};
 
     ghost Value = { List TermValue };
 
@@ -30,8 +32,7 @@ impl Model for Table {
 
     ghost view = { λ a. a.objects.items };
 
-    // So the reply to a lookup is a term.
-    ghost invariant = { λ a. AllByRecursion (λ object. depth object ≤ 255) a.objects.items };
+    ghost invariant = { λ a. AreOfSet a.objects.items };
 }
 
 impl Table {
@@ -43,38 +44,56 @@ impl Table {
         }
     }
 
-    /// The object of a key, if there is one.
-    pub(crate) fn lookup(&self, key: &Term) -> Option<&Term>
-        ensures { IfSome (option_copied result) (λ object. depth object ≤ 255) }
+    /// The objects of a key: none or one.
+    pub(crate) fn lookup(&self, alloc: Global, key: &Term) -> Result<TermList, Memory>
+        ensures found { IfOk result (λ found. found ≡ filter (has_key KEYPOS key.now) self.now) }
+        ensures few { IfOk result (λ found. length found ≤ 1) }
+        ensures shallow { IfOk result (λ found. deepest found ≤ 255) }
     {
-        self.objects.get(self.place_of(key)?)
-    }
-
-    /// Puts an object in the place of the one with its key. `Memory` changes nothing.
-    pub(crate) fn insert(&mut self, object: Term) -> Result<(), Memory>
-        requires { depth object ≤ 255 }
-        ensures err { OnErr result (self.new ≡ self.old) }
-    {
-        let old = match key_of(&object, KEYPOS) {
-            Some(key) => self.place_of(key),
-            None => None,
-        };
-        self.objects.push(object)?;
-        if let Some(place) = old {
-            self.objects.remove(place);
-        }
-        Ok(())
-    }
-
-    /// Where the object of a key stands.
-    fn place_of(&self, key: &Term) -> Option<usize>
-        ensures { IfSome result (λ place. place < length self.now) }
-    {
-        for (place, object) in self.objects.iter().enumerate() {
-            if key_of(object, KEYPOS).is_some_and(|found| eq(found, key)) {
-                return Some(place);
+        let mut found = TermList::new(alloc);
+        for object in &self.objects {
+            if has_key(object, key) {
+                found.push(object.copy(alloc)?)?;
             }
         }
-        None
+        Ok(found)
+    }
+
+    /// Puts an object in the place of the one with its key. After `Memory` some objects may be gone.
+    pub(crate) fn insert(&mut self, object: Term) -> Result<(), Memory>
+        requires { depth object ≤ 255 }
+        ensures { OnOk result (self.new ≡ with_object Set KEYPOS self.old object) }
+    {
+        remove_key(&mut self.objects, &object);
+        self.objects.push(object)?;
+        Ok(())
+    }
+}
+
+/// Takes out the objects with the key of this one.
+fn remove_key(objects: &mut Vec<Term>, object: &Term)
+    ensures { objects.new.items
+        ≡ filter (λ other. not (shares_key KEYPOS (key object.now KEYPOS) other)) objects.old.items }
+{
+    objects.retain(|other| !shares_key(object, other));
+}
+
+/// Whether an object has this key.
+fn has_key(object: &Term, key: &Term) -> bool
+    ensures { result ≡ has_key KEYPOS key.now object.now }
+{
+    match key_of(object, KEYPOS) {
+        Some(found) => eq(found, key),
+        None => false,
+    }
+}
+
+/// Whether another object has the key of this one.
+fn shares_key(object: &Term, other: &Term) -> bool
+    ensures { result ≡ shares_key KEYPOS (key object.now KEYPOS) other.now }
+{
+    match key_of(object, KEYPOS) {
+        Some(key) => has_key(other, key),
+        None => false,
     }
 }
