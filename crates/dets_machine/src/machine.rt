@@ -95,7 +95,7 @@ impl Machine {
         }
     }
 
-    /// Ends all clients, and so closes the table.
+    /// Ends all clients, and so closes the table. `Memory`: want of memory in an earlier call.
     pub fn finish<H: Host>(&mut self, host: &mut H) -> Result<(), Stop>
         ensures ok { self.old.starved ≡ false → (result ≡ Ok tt) × (self.new.state ≡ after_exit self.old.state) }
         ensures goes_on { self.new.starved ≡ self.old.starved }
