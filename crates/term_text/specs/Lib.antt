@@ -1,5 +1,11 @@
 -- The definitions of this crate, one file for each idea.
 pub mod FeedInside
 pub mod FeedState
-pub mod Nest
 pub mod Printed
+pub mod Token
+pub mod Machine
+pub mod Reading
+pub mod Good
+pub mod ReaderView
+pub mod Next
+pub mod Reaches

@@ -1,6 +1,8 @@
-ghost use Rattle.std.specs.Prelude.{◌≡◌, ◌<◌, ◌≤◌, ◌+◌, ◌^◌, ℕ, [], ◌++◌, length, drop, true, false, IsTrue, IsErrOf, IsNone, ◌↔◌, OnOk, OnErr, vec_len};
+ghost use Rattle.std.specs.Prelude.{◌≡◌, ◌<◌, ◌≤◌, ◌+◌, ◌^◌, ℕ, [], ◌++◌, length, drop, true, false, IsTrue, IsErrOf, OnOk, OnErr, vec_len};
 ghost use Rattle.dets_term.specs.TermValue.{TermValue};
+ghost use Rattle.term_text.specs.Token.{is_white, each};
 ghost use Rattle.term_text.specs.FeedState.{Takes, total};
+ghost use Rattle.term_text.specs.Next.{IsNext, ends};
 ghost use Rattle.term_text.specs.declared.feed.TextFault.TheVariants.{Memory as OutOfMemory};
 
 use crate::Memory;
@@ -131,8 +133,9 @@ impl TextFeed {
         ensures not_yet { IsErrOf result TextFault.NotYet → self.new ≡ record self.old { refused = true } }
         ensures memory { IsErrOf result TextFault.Memory → self.new ≡ self.old }
         ensures again { result ≡ Ok Fed.Again → (self.new ≡ self.old) × (self.old.finished ≡ false) }
-        ensures end { result ≡ Ok Fed.End → (self.new ≡ self.old) × (self.old.finished ≡ true) }
-        ensures term { (t : TermValue) → result ≡ Ok (Fed.Term t) → (taken : ℕ) × Takes self.old self.new taken }
+        ensures end { result ≡ Ok Fed.End → (self.new ≡ self.old) × (self.old.finished ≡ true) × (each is_white self.old.left ≡ true) }
+        ensures term { (t : TermValue) → result ≡ Ok (Fed.Term t)
+            → (taken : ℕ) × Takes self.old self.new taken × IsNext self.old t taken }
         ensures keeps { (total self.new ≡ total self.old) × (self.new.finished ≡ self.old.finished) }
     {
         if self.refused {
@@ -149,8 +152,9 @@ impl TextFeed {
     fn read_on(&mut self) -> Result<Fed, TextFault>
         ensures err { OnErr result (self.new ≡ self.old) }
         ensures again { result ≡ Ok Fed.Again → (self.new ≡ self.old) × (self.old.finished ≡ false) }
-        ensures end { result ≡ Ok Fed.End → (self.new ≡ self.old) × (self.old.finished ≡ true) }
-        ensures term { (t : TermValue) → result ≡ Ok (Fed.Term t) → (taken : ℕ) × Takes self.old self.new taken }
+        ensures end { result ≡ Ok Fed.End → (self.new ≡ self.old) × (self.old.finished ≡ true) × (each is_white self.old.left ≡ true) }
+        ensures term { (t : TermValue) → result ≡ Ok (Fed.Term t)
+            → (taken : ℕ) × Takes self.old self.new taken × IsNext self.old t taken }
         ensures keeps { (total self.new ≡ total self.old) × (self.new.finished ≡ self.old.finished) }
     {
         match self.reader.run(self.alloc, &self.bytes[self.read..]) {
@@ -185,7 +189,7 @@ impl TextFeed {
 
 /// Whether a full stop in front of these bytes is the end of a term; `None` where the next piece decides.
 fn is_end(rest: &[u8], finished: bool) -> Option<bool>
-    ensures { IsNone result ↔ ((length rest.now ≡ 0) × (finished ≡ false)) }
+    ensures { result ≡ ends finished rest.now }
 {
     match rest.first() {
         Some(byte) => Some(is_white_space(*byte) || *byte == b'%'),

@@ -6,10 +6,14 @@
 #![tactic(auto)]
 
 pub use feed::{Fed, TextFault, TextFeed};
+pub use laws::bytes_begin_with_one_term;
 pub use printing::print;
 pub use std::alloc::AllocError as Memory;
 
 mod feed;
+mod integer;
+mod laws;
+mod name;
 mod nest;
 mod printing;
 mod reader;

@@ -1,8 +1,12 @@
-ghost use Rattle.std.specs.Prelude.{◌↔◌, IsTrue};
-ghost use Rattle.term_text.specs.Nest.{IsStopped};
+ghost use Rattle.std.specs.Prelude.{◌≡◌, ◌<◌, ◌≤◌, ◌^◌, [], true, length, Some, None, IfOk, IfErr, OnOk, IsErrOf};
+ghost use Rattle.dets_term.specs.Parts.{deepest};
+ghost use Rattle.term_text.specs.Token.{opening, closing, comma, full_stop};
+ghost use Rattle.term_text.specs.Machine.{want, stopped, may_begin, complete, bracketed, take_token};
+ghost use Rattle.term_text.specs.Reading.{nest_of, is_stopped, HasFew};
+ghost use Rattle.term_text.specs.Good.{GoodFrames};
 
-use crate::TextFault;
-use dets_term::{Term, TermList};
+use crate::{Memory, TextFault};
+use dets_term::{Term, TermFault, TermList};
 use std::alloc::Global;
 use std::mem;
 
@@ -47,7 +51,7 @@ pub(crate) struct Nest {
 
 impl Nest {
     pub(crate) fn new(alloc: Global) -> Nest
-        ensures { IsStopped result → ⊥ }
+        ensures { nest_of result ≡ record { frames = []; place = want } }
     {
         Nest {
             open: Vec::new(alloc),
@@ -56,19 +60,24 @@ impl Nest {
     }
 
     /// Whether a term may begin here.
-    pub(crate) fn may_begin(&self) -> bool {
+    pub(crate) fn may_begin(&self) -> bool
+        ensures { result ≡ may_begin (nest_of self.now) }
+    {
         matches!(self.place, Place::Want | Place::Opened) && self.open.len() < MAX_LEVELS
     }
 
     /// Whether the last token was the full stop of a term.
     pub(crate) fn is_stopped(&self) -> bool
-        ensures { IsTrue result ↔ IsStopped self.now }
+        ensures { result ≡ is_stopped (nest_of self.now).place }
     {
         matches!(self.place, Place::Stopped(_))
     }
 
     /// Takes an opening bracket.
-    pub(crate) fn open(&mut self, alloc: Global, bracket: Bracket) -> Result<(), TextFault> {
+    pub(crate) fn open(&mut self, alloc: Global, bracket: Bracket) -> Result<(), TextFault>
+        ensures ok { OnOk result (take_token (nest_of self.old) (opening bracket) ≡ Some (nest_of self.new)) }
+        ensures not_yet { IsErrOf result TextFault.NotYet → take_token (nest_of self.old) (opening bracket) ≡ None }
+    {
         if !self.may_begin() {
             return Err(TextFault::NotYet);
         }
@@ -81,11 +90,14 @@ impl Nest {
     }
 
     /// Takes a term where one began.
-    pub(crate) fn complete(&mut self, term: Term) -> Result<(), TextFault> {
-        match self.open.last_mut() {
+    pub(crate) fn complete(&mut self, term: Term) -> Result<(), Memory>
+        ensures { OnOk result (nest_of self.new ≡ complete (nest_of self.old).frames term) }
+    {
+        match self.open.pop() {
             None => self.place = Place::Whole(term),
-            Some(open) => {
-                open.parts.push(term)?;
+            Some(mut innermost) => {
+                innermost.parts.push(term)?;
+                self.open.push(innermost)?;
                 self.place = Place::After;
             }
         }
@@ -93,18 +105,26 @@ impl Nest {
     }
 
     /// Takes a closing bracket.
-    pub(crate) fn close(&mut self, bracket: Bracket) -> Result<(), TextFault> {
+    pub(crate) fn close(&mut self, bracket: Bracket) -> Result<(), TextFault>
+        requires good { GoodFrames (nest_of self.old).frames }
+        requires few { HasFew (2 ^ 24) (nest_of self.old).frames }
+        ensures ok { OnOk result (take_token (nest_of self.old) (closing bracket) ≡ Some (nest_of self.new)) }
+        ensures not_yet { IsErrOf result TextFault.NotYet → take_token (nest_of self.old) (closing bracket) ≡ None }
+    {
         if !matches!(self.place, Place::Opened | Place::After) {
             return Err(TextFault::NotYet);
         }
         match self.open.pop() {
-            Some(open) if open.bracket == bracket => self.complete(whole(open)?),
+            Some(frame) if frame.bracket == bracket => Ok(self.complete(bracketed(frame)?)?),
             _ => Err(TextFault::NotYet),
         }
     }
 
     /// Takes a comma.
-    pub(crate) fn comma(&mut self) -> Result<(), TextFault> {
+    pub(crate) fn comma(&mut self) -> Result<(), TextFault>
+        ensures ok { OnOk result (take_token (nest_of self.old) comma ≡ Some (nest_of self.new)) }
+        ensures not_yet { IsErrOf result TextFault.NotYet → take_token (nest_of self.old) comma ≡ None }
+    {
         if !matches!(self.place, Place::After) {
             return Err(TextFault::NotYet);
         }
@@ -113,7 +133,10 @@ impl Nest {
     }
 
     /// Takes a full stop.
-    pub(crate) fn stop(&mut self) -> Result<(), TextFault> {
+    pub(crate) fn stop(&mut self) -> Result<(), TextFault>
+        ensures ok { OnOk result (take_token (nest_of self.old) full_stop ≡ Some (nest_of self.new)) }
+        ensures not_yet { IsErrOf result TextFault.NotYet → take_token (nest_of self.old) full_stop ≡ None }
+    {
         match mem::replace(&mut self.place, Place::Want) {
             Place::Whole(term) => {
                 self.place = Place::Stopped(term);
@@ -125,8 +148,9 @@ impl Nest {
 
     /// The term whose full stop was the last token. The next one begins then.
     pub(crate) fn take_stopped(&mut self) -> Term
-        requires { IsStopped self.old }
-        ensures { IsStopped self.new → ⊥ }
+        requires { is_stopped (nest_of self.old).place ≡ true }
+        ensures term { (nest_of self.old).place ≡ stopped result }
+        ensures nest { nest_of self.new ≡ record { frames = (nest_of self.old).frames; place = want } }
     {
         match mem::replace(&mut self.place, Place::Want) {
             Place::Stopped(term) => term,
@@ -136,9 +160,25 @@ impl Nest {
 }
 
 /// The term in these brackets.
-fn whole(open: Open) -> Result<Term, TextFault> {
-    match open.bracket {
-        Bracket::Tuple => Ok(Term::tuple(open.parts)?),
-        Bracket::List => Ok(Term::list(open.parts)?),
+fn bracketed(frame: Open) -> Result<Term, Memory>
+    requires shallow { deepest frame.parts < 256 }
+    requires few { length frame.parts ≤ 2 ^ 24 }
+    ensures { IfOk result (λ term. term ≡ bracketed frame.bracket frame.parts) }
+{
+    match frame.bracket {
+        Bracket::Tuple => within_limits(Term::tuple(frame.parts)),
+        Bracket::List => within_limits(Term::list(frame.parts)),
+    }
+}
+
+/// A term that is within its limits, where there was memory.
+fn within_limits(term: Result<Term, TermFault>) -> Result<Term, Memory>
+    requires { IfErr term (λ fault. fault ≡ TermFault.Memory) }
+    ensures { IfOk result (λ made. term ≡ Ok made) }
+{
+    match term {
+        Ok(term) => Ok(term),
+        Err(TermFault::Memory) => Err(Memory),
+        Err(_) => unreachable!(),
     }
 }

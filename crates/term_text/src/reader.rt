@@ -1,35 +1,34 @@
-ghost use Rattle.std.specs.Prelude.{◌≡◌, ◌-◌, ◌<◌, pos, ◌≤◌, ◌↔◌, IsTrue, IfOk, length};
-ghost use Rattle.term_text.specs.Nest.{IsStopped};
+ghost use Rattle.std.specs.Prelude.{◌≡◌, ◌-◌, ◌<◌, ◌≤◌, ◌+◌, ◌^◌, ◌==◌, true, false, length, take, ◌⊎◌, Some, None, option_and_then, IfOk, OnOk, IsErrOf};
+ghost use Rattle.dets_term.specs.TermValue.{atom};
+ghost use Rattle.term_text.specs.Token.{is_white, with_digit};
+ghost use Rattle.term_text.specs.Machine.{no_token, first_state, first_byte, settled, begun, step, stopped, ReaderState};
+ghost use Rattle.term_text.specs.Reading.{is_stopped, HasFew};
+ghost use Rattle.term_text.specs.Reading.{nest_of};
+ghost use Rattle.term_text.specs.ReaderView.{token_of, reader_of};
+ghost use Rattle.term_text.specs.Reaches.{Reaches, Fails, IsOrderly, IsInTime, counted};
+ghost use Rattle.term_text.specs.Good.{Good, GoodFrames};
 
 use crate::TextFault;
+use crate::integer::Integer;
+use crate::name::Name;
 use crate::nest::{Bracket, Nest};
 use crate::printing::is_name_byte;
-use dets_term::{Term, Text};
+use dets_term::Term;
 use std::alloc::Global;
 use std::mem;
 
 /// The full stop of a term stands among this many bytes from the term's first byte on.
 const MAX_BYTES: u32 = 16_777_216;
 
-/// The greatest number of characters of an atom.
-const MAX_ATOM: usize = 255;
-
 /// A token of several bytes that may go on.
 #[derive(Drop)]
 enum Token {
     None,
     /// A plain atom: ASCII alone.
-    Atom(Text),
+    Atom(Name),
     /// A minus sign, before its first digit.
     Minus,
     Integer(Integer),
-}
-
-/// The digits of an integer so far.
-#[derive(Clone, Copy)]
-struct Integer {
-    value: i128,
-    is_negative: bool,
 }
 
 /// What the bytes since the last full stop have come to.
@@ -43,7 +42,8 @@ pub(crate) struct Reader {
 
 impl Reader {
     pub(crate) fn new(alloc: Global) -> Reader
-        ensures { IsStopped result.nest → ⊥ }
+        ensures state { reader_of result ≡ first_state }
+        ensures length { result.length ≡ 0 }
     {
         Reader {
             nest: Nest::new(alloc),
@@ -53,21 +53,27 @@ impl Reader {
     }
 
     /// Whether no term has begun.
-    pub(crate) fn is_blank(&self) -> bool {
+    pub(crate) fn is_blank(&self) -> bool
+        ensures { result ≡ (self.now.length == 0) }
+    {
         self.length == 0
     }
 
     /// Whether the last byte was a full stop behind a whole term.
     pub(crate) fn is_stopped(&self) -> bool
-        ensures { IsTrue result ↔ IsStopped self.now.nest }
+        ensures { result ≡ is_stopped (reader_of self.now).nest.place }
     {
         self.nest.is_stopped()
     }
 
     /// The term whose full stop was the last byte. The next term begins then.
     pub(crate) fn take_stopped(&mut self) -> Term
-        requires { IsStopped self.old.nest }
-        ensures { IsStopped self.new.nest → ⊥ }
+        requires good { Good (reader_of self.old) }
+        requires stopped { is_stopped (reader_of self.old).nest.place ≡ true }
+        requires none { token_of self.old.token ≡ no_token }
+        ensures term { (reader_of self.old).nest.place ≡ stopped result }
+        ensures state { reader_of self.new ≡ first_state }
+        ensures length { self.new.length ≡ 0 }
     {
         self.length = 0;
         self.nest.take_stopped()
@@ -75,43 +81,34 @@ impl Reader {
 
     /// Reads bytes up to a full stop behind a whole term, and says how many.
     pub(crate) fn run(&mut self, alloc: Global, bytes: &[u8]) -> Result<usize, TextFault>
+        requires { IsOrderly (reader_of self.old) self.old.length }
         ensures within { IfOk result (λ taken. taken ≤ length bytes.now) }
-        ensures none { IfOk result (λ taken. taken ≡ 0 → self.new ≡ self.old) }
+        ensures ok { IfOk result (λ taken. Reaches (reader_of self.old) self.old.length (take taken bytes.now) (reader_of self.new) self.new.length) }
+        ensures order { OnOk result (IsOrderly (reader_of self.new) self.new.length) }
+        ensures stop { IfOk result (λ taken. taken < length bytes.now → is_stopped (reader_of self.new).nest.place ≡ true) }
+        ensures not_yet { IsErrOf result TextFault.NotYet → Fails (reader_of self.old) self.old.length bytes.now }
     {
         for (taken, byte) in bytes.iter().enumerate() {
             if self.is_stopped() {
                 return Ok(taken);
             }
-            self.read(alloc, *byte)?;
+            self.advance(alloc, *byte)?;
         }
         Ok(bytes.len())
     }
 
-    /// Reads one byte.
-    fn read(&mut self, alloc: Global, byte: u8) -> Result<(), TextFault> {
-        match &mut self.token {
-            Token::Atom(name) if is_name_byte(byte) => push_to_atom(name, byte)?,
-            Token::Minus if byte.is_ascii_digit() => {
-                self.token = Token::Integer(Integer {
-                    value: -digit_value(byte),
-                    is_negative: true,
-                });
-            }
-            Token::Integer(integer) if byte.is_ascii_digit() => {
-                integer.value = with_digit(*integer, byte).ok_or(TextFault::NotYet)?;
-            }
-            _ => {
-                self.end_token(alloc)?;
-                self.begin_token(alloc, byte)?;
-            }
-        }
-        self.count(byte)
-    }
-
-    /// Counts a byte that was read.
-    fn count(&mut self, byte: u8) -> Result<(), TextFault> {
+    /// Reads one byte, and counts it.
+    fn advance(&mut self, alloc: Global, byte: u8) -> Result<(), TextFault>
+        requires order { IsOrderly (reader_of self.old) self.old.length }
+        requires moving { is_stopped (reader_of self.old).nest.place ≡ false }
+        ensures ok { OnOk result ((step (reader_of self.old) byte ≡ Some (reader_of self.new)) × IsInTime (reader_of self.new) self.new.length) }
+        ensures count { OnOk result (self.new.length ≡ counted self.old.length byte) }
+        ensures not_yet { IsErrOf result TextFault.NotYet → (step (reader_of self.old) byte ≡ None)
+            ⊎ ((m : ReaderState) × (step (reader_of self.old) byte ≡ Some m) × (is_stopped m.nest.place ≡ false) × (2 ^ 24 ≤ counted self.old.length byte)) }
+    {
+        self.read(alloc, byte)?;
         if self.length > 0 || !is_white_space(byte) {
-            self.length = self.length.saturating_add(1);
+            self.length += 1;
         }
         if self.length >= MAX_BYTES && !self.is_stopped() {
             return Err(TextFault::NotYet);
@@ -119,18 +116,73 @@ impl Reader {
         Ok(())
     }
 
+    /// Reads one byte.
+    fn read(&mut self, alloc: Global, byte: u8) -> Result<(), TextFault>
+        requires good { Good (reader_of self.old) }
+        requires few { HasFew (2 ^ 24 - 1) (reader_of self.old).nest.frames }
+        ensures ok { OnOk result (step (reader_of self.old) byte ≡ Some (reader_of self.new)) }
+        ensures length { self.new.length ≡ self.old.length }
+        ensures not_yet { IsErrOf result TextFault.NotYet → step (reader_of self.old) byte ≡ None }
+    {
+        match &mut self.token {
+            Token::Atom(name) if is_name_byte(byte) => name.push(byte),
+            Token::Minus if byte.is_ascii_digit() => {
+                self.token = Token::Integer(Integer::new(true, byte));
+                Ok(())
+            }
+            Token::Integer(integer) if byte.is_ascii_digit() => {
+                match integer.with_digit(byte) {
+                    Some(next) => {
+                        *integer = next;
+                        Ok(())
+                    }
+                    None => Err(TextFault::NotYet),
+                }
+            }
+            _ => self.read_apart(alloc, byte),
+        }
+    }
+
+    /// Reads a byte that does not go on with the token.
+    fn read_apart(&mut self, alloc: Global, byte: u8) -> Result<(), TextFault>
+        requires good { Good (reader_of self.old) }
+        requires few { HasFew (2 ^ 24 - 1) (reader_of self.old).nest.frames }
+        ensures ok { OnOk result (option_and_then (λ n. begun n byte) (settled (nest_of self.old.nest) (token_of self.old.token)) ≡ Some (reader_of self.new)) }
+        ensures length { self.new.length ≡ self.old.length }
+        ensures not_yet { IsErrOf result TextFault.NotYet → option_and_then (λ n. begun n byte) (settled (nest_of self.old.nest) (token_of self.old.token)) ≡ None }
+    {
+        self.end_token(alloc)?;
+        self.begin_token(alloc, byte)
+    }
+
     /// Ends the token that was read, if there is one.
-    fn end_token(&mut self, alloc: Global) -> Result<(), TextFault> {
+    fn end_token(&mut self, alloc: Global) -> Result<(), TextFault>
+        requires { Good (reader_of self.old) }
+        ensures ok { OnOk result (settled (nest_of self.old.nest) (token_of self.old.token) ≡ Some (nest_of self.new.nest)) }
+        ensures none { OnOk result (token_of self.new.token ≡ no_token) }
+        ensures length { self.new.length ≡ self.old.length }
+        ensures not_yet { IsErrOf result TextFault.NotYet → settled (nest_of self.old.nest) (token_of self.old.token) ≡ None }
+    {
         match mem::replace(&mut self.token, Token::None) {
             Token::None => Ok(()),
-            Token::Atom(name) => self.nest.complete(Term::atom(alloc, name.as_str())?),
+            Token::Atom(name) => {
+                let term = name.atom(alloc)?;
+                Ok(self.nest.complete(term)?)
+            }
             Token::Minus => Err(TextFault::NotYet),
-            Token::Integer(integer) => self.nest.complete(Term::int(integer.value)),
+            Token::Integer(integer) => Ok(self.nest.complete(Term::int(integer.value))?),
         }
     }
 
     /// Reads the first byte of a token, or a byte between tokens.
-    fn begin_token(&mut self, alloc: Global, byte: u8) -> Result<(), TextFault> {
+    fn begin_token(&mut self, alloc: Global, byte: u8) -> Result<(), TextFault>
+        requires none { token_of self.old.token ≡ no_token }
+        requires good { GoodFrames (nest_of self.old.nest).frames }
+        requires few { HasFew (2 ^ 24) (nest_of self.old.nest).frames }
+        ensures ok { OnOk result (begun (nest_of self.old.nest) byte ≡ Some (reader_of self.new)) }
+        ensures length { self.new.length ≡ self.old.length }
+        ensures not_yet { IsErrOf result TextFault.NotYet → begun (nest_of self.old.nest) byte ≡ None }
+    {
         match byte {
             b'{' => self.nest.open(alloc, Bracket::Tuple),
             b'}' => self.nest.close(Bracket::Tuple),
@@ -149,52 +201,21 @@ impl Reader {
 }
 
 /// The token of an atom or an integer that begins with this byte.
-fn first_of_token(alloc: Global, byte: u8) -> Result<Token, TextFault> {
+fn first_of_token(alloc: Global, byte: u8) -> Result<Token, TextFault>
+    ensures ok { IfOk result (λ token. first_byte byte ≡ Some (token_of token)) }
+    ensures not_yet { IsErrOf result TextFault.NotYet → first_byte byte ≡ None }
+{
     match byte {
         b'-' => Ok(Token::Minus),
-        b'0'..=b'9' => Ok(Token::Integer(Integer {
-            value: digit_value(byte),
-            is_negative: false,
-        })),
-        b'a'..=b'z' => {
-            let mut name = Text::new(alloc);
-            name.push(char::from(byte))?;
-            Ok(Token::Atom(name))
-        }
+        b'0'..=b'9' => Ok(Token::Integer(Integer::new(false, byte))),
+        b'a'..=b'z' => Ok(Token::Atom(Name::new(alloc, byte)?)),
         _ => Err(TextFault::NotYet),
     }
 }
 
-/// Puts one more byte to a plain atom of at most 255 characters.
-fn push_to_atom(name: &mut Text, byte: u8) -> Result<(), TextFault> {
-    if name.as_str().len() >= MAX_ATOM {
-        return Err(TextFault::NotYet);
-    }
-    name.push(char::from(byte))?;
-    Ok(())
-}
-
-/// The value with one more digit, or `None` where 128 bits do not hold it.
-fn with_digit(integer: Integer, digit: u8) -> Option<i128>
-    requires { (48 ≤ digit) × (digit < 58) }
-{
-    let tenfold = integer.value.checked_mul(10)?;
-    if integer.is_negative {
-        tenfold.checked_sub(digit_value(digit))
-    } else {
-        tenfold.checked_add(digit_value(digit))
-    }
-}
-
-/// The value of an ASCII digit.
-fn digit_value(digit: u8) -> i128
-    requires { (48 ≤ digit) × (digit < 58) }
-    ensures { result ≡ pos (digit - 48) }
-{
-    i128::from(digit - b'0')
-}
-
 /// Whether a byte may stand between two tokens.
-pub(crate) fn is_white_space(byte: u8) -> bool {
+pub(crate) fn is_white_space(byte: u8) -> bool
+    ensures { result ≡ is_white byte }
+{
     matches!(byte, 9..=13 | b' ')
 }

@@ -1,29 +1,114 @@
-use Rattle.std.proofs.Common.{◌≡◌, ◌+◌, ◌-◌, ◌<◌, ◌≤◌, ℕ, zero, suc, length, drop, refl, ap, sym, ◌∙◌, subst, arith}
-use Rattle.std.proofs.lemmas.List.{drop-drop, length-drop}
-use Rattle.term_text.specs.Nest.{IsStopped}
-use Rattle.term_text.specs.declared.reader.Reader.{Reader}
+use Rattle.std.proofs.Common.{◌≡◌, ◌+◌, ◌-◌, ◌≤◌, ◌^◌, true, false, ℕ, length, take, drop, refl, ap, sym, ◌∙◌, subst, arith}
+use Rattle.std.proofs.lemmas.List.{drop-drop, length-drop, length-take-le}
+use Rattle.std.proofs.lemmas.Bool.{eqb-true}
+use Rattle.std.proofs.Common.{Some, Ok, Err}
+use Rattle.term_text.specs.Machine.{first_state, stopped}
+use Rattle.term_text.specs.Reading.{is_stopped}
+use Rattle.term_text.specs.ReaderView.{reader_of}
+use Rattle.term_text.specs.declared.feed.Fed.TheVariants.{Again, End}
+use Rattle.term_text.specs.declared.feed.TextFault.TheVariants.{NotYet}
+use Rattle.term_text.specs.Next.{text_length, ends}
+use Rattle.term_text.proofs.FeedOrder.{fresh_reached, fresh_order, more_reached, read_there, some_taken, rest_left, all_taken, all_read}
+use Rattle.term_text.proofs.Soundness.{whole_read, total_counted, all_white}
 use Rattle.term_text.proofs.feed.TextFeed.read_on.Goals as goal
+use Rattle.term_text.proofs.feed.TextFeed.read_on.Goals.{then-not-self, else-not-self+then-is_blank, else-not-self+else-is_blank}
 
-some_read : (start read n : ℕ) → start ≤ read → (n ≡ 0 → start < read) → 0 < read + n - start
-some_read start read zero h before = let b = before refl in omega arith
-some_read start read (suc n) h before = omega arith
+pub invariant_of-self : goal.invariant_of-self
+invariant_of-self c = record {
+  started = omega arith;
+  there = omega (arith, c.self.invariant.started, c.self.invariant.there);
+  short = c.self.invariant.short;
+  reached = fresh_reached c.self.inside.bytes.items c.self.inside.start _ _ c.new.ensures.state c.new.ensures.length;
+  order = fresh_order _ _ c.new.ensures.state c.new.ensures.length;
+}
+
+pub invariant_of-self-in-None : goal.invariant_of-self-in-None
+invariant_of-self-in-None c = record {
+  started = omega (arith, c.self.invariant.started);
+  there = read_there c.self.inside.bytes.items _ c.self.inside.read c.in-Ok.taken c.deref.ensures.value c.self.invariant.there c.in-Ok.ensures.within;
+  short = c.self.invariant.short;
+  reached = more_reached c.self.inside.bytes.items _ c.self.inside.start c.self.inside.read c.in-Ok.taken _ _ _ _ c.deref.ensures.value c.self.invariant.started c.self.invariant.reached c.in-Ok.ensures.ok;
+  order = c.in-Ok.ensures.order;
+}
+
+pub invariant_of-self-in-Some-true : goal.invariant_of-self-in-Some-true
+invariant_of-self-in-Some-true c =
+    let items = c.self.inside.bytes.items in
+    let there = read_there items _ c.self.inside.read c.in-Ok.taken c.deref.ensures.value c.self.invariant.there c.in-Ok.ensures.within in
+    record {
+      started = omega arith;
+      there = there;
+      short = omega (arith, length-drop c.self.inside.start items, length-drop (c.self.inside.read + c.in-Ok.taken) items, c.self.invariant.short, c.self.invariant.started, there);
+      reached = fresh_reached items (c.self.inside.read + c.in-Ok.taken) _ _ c.take_stopped-term.ensures.state c.take_stopped-term.ensures.length;
+      order = fresh_order _ _ c.take_stopped-term.ensures.state c.take_stopped-term.ensures.length;
+    }
+
+pub invariant_of-self-in-Some-false : goal.invariant_of-self-in-Some-false
+invariant_of-self-in-Some-false c = record {
+  started = omega (arith, c.self.invariant.started);
+  there = read_there c.self.inside.bytes.items _ c.self.inside.read c.in-Ok.taken c.deref.ensures.value c.self.invariant.there c.in-Ok.ensures.within;
+  short = c.self.invariant.short;
+  reached = more_reached c.self.inside.bytes.items _ c.self.inside.start c.self.inside.read c.in-Ok.taken _ _ _ _ c.deref.ensures.value c.self.invariant.started c.self.invariant.reached c.in-Ok.ensures.ok;
+  order = c.in-Ok.ensures.order;
+}
+
+pub invariant_of-self-else-is_stopped : goal.invariant_of-self-else-is_stopped
+invariant_of-self-else-is_stopped c = record {
+  started = omega (arith, c.self.invariant.started);
+  there = read_there c.self.inside.bytes.items _ c.self.inside.read c.in-Ok.taken c.deref.ensures.value c.self.invariant.there c.in-Ok.ensures.within;
+  short = c.self.invariant.short;
+  reached = more_reached c.self.inside.bytes.items _ c.self.inside.start c.self.inside.read c.in-Ok.taken _ _ _ _ c.deref.ensures.value c.self.invariant.started c.self.invariant.reached c.in-Ok.ensures.ok;
+  order = c.in-Ok.ensures.order;
+}
 
 pub returns-in-Some-true-clause-term : goal.returns-in-Some-true-clause-term
 returns-in-Some-true-clause-term c = λ t e.
     let items = c.self.inside.bytes.items in
     let start = c.self.inside.start in
-    let read = c.self.inside.read in
-    let taken = read + c.in-Ok.taken - start in
+    let behind = c.self.inside.read + c.in-Ok.taken in
+    let there = read_there items _ c.self.inside.read c.in-Ok.taken c.deref.ensures.value c.self.invariant.there c.in-Ok.ensures.within in
+    let le : start ≤ behind = omega (arith, c.self.invariant.started) in
+    let fits : behind - start ≤ length (drop start items) = omega (arith, length-drop start items, there, le) in
+    let reached = more_reached items _ start c.self.inside.read c.in-Ok.taken _ _ _ _ c.deref.ensures.value c.self.invariant.started c.self.invariant.reached c.in-Ok.ensures.ok in
+    let same : c.take_stopped-term.result ≡ t = cc in
+    let whole = whole_read (take (behind - start) (drop start items)) _ _ t reached (c.take_stopped-term.ensures.term ∙ ap stopped same) in
+    let stops = some_taken (take (behind - start) (drop start items)) _ _ reached (sym c.is_stopped.ensures ∙ c.if-is_stopped.true) in
+    let left = rest_left items _ start behind c.deref-then-is_stopped.ensures.value le in
+    let tested : ends c.self.inside.finished (drop (behind - start) (drop start items)) ≡ Some true =
+    ap (ends c.self.inside.finished) (sym left) ∙ sym c.is_end.ensures ∙ c.in-Some-true.is ∙ ap Some c.in-Some-true.field-0-test in
     rw (← c.self.view_is) (
-      taken,
+      behind - start,
       record {
-        some =
-            some_read start read c.in-Ok.taken c.self.invariant.started
-            (λ none. c.self.invariant.stop (subst (λ (r : Reader). IsStopped r.nest) (c.in-Ok.ensures.none none) (c.is_stopped.ensures.0 c.if-is_stopped.true)));
-        there = omega (arith, length-drop start items, length-drop read items, ap length c.deref.ensures.value, c.in-Ok.ensures.within);
-        left = ap (λ n. drop n items) (let e : read + c.in-Ok.taken ≡ start + taken = omega arith in e) ∙ sym (drop-drop taken start items);
+        some = omega (arith, stops, length-take-le (behind - start) (drop start items) fits);
+        there = fits;
+        left = ap (λ n. drop n items) (let sum : behind ≡ start + (behind - start) = omega arith in sum) ∙ sym (drop-drop (behind - start) start items);
         offset = refl;
         finished = refl;
         refused = refl;
       },
+      record {
+        sentence = whole.sentence;
+        within = subst (λ (k : ℕ). k ≤ 2 ^ 24) (total_counted first_state (take (behind - start) (drop start items)) _ _ reached) whole.within;
+        end = tested;
+      },
     )
+
+pub returns-after-not-self-clause-end : goal.returns-after-not-self-clause-end
+returns-after-not-self-clause-end c =
+    let items = c.self.inside.bytes.items in
+    let start = c.self.inside.start in
+    let there = read_there items _ c.self.inside.read c.in-Ok.taken c.deref.ensures.value c.self.invariant.there c.in-Ok.ensures.within in
+    let reached = more_reached items _ start c.self.inside.read c.in-Ok.taken _ _ _ _ c.deref.ensures.value c.self.invariant.started c.self.invariant.reached c.in-Ok.ensures.ok in
+    let going : is_stopped (reader_of c.run.new.self).nest.place ≡ false = sym c.is_stopped.ensures ∙ c.if-is_stopped.false in
+    let all : c.self.inside.read + c.in-Ok.taken ≡ length items =
+    all_read items _ c.self.inside.read c.in-Ok.taken _ c.deref.ensures.value there going c.in-Ok.ensures.stop in
+    let taken = all_taken items start (c.self.inside.read + c.in-Ok.taken) (omega (arith, c.self.invariant.started)) all in
+    elim c.if-not-self.branch [
+      | then-not-self w ↦ (λ e. absurd (let clash : Ok Again ≡ Ok End = sym w.result-is ∙ e in cc))
+      | else-not-self+then-is_blank w ↦ (λ _.
+          let none : c.run.new.self.length ≡ 0 = eqb-true c.run.new.self.length 0 (sym w.is_blank.ensures ∙ w.if-is_blank.true) in
+          let counted : text_length (drop start items) ≡ 0 =
+          ap text_length (sym taken) ∙ sym (total_counted first_state (take (c.self.inside.read + c.in-Ok.taken - start) (drop start items)) _ _ reached) ∙ none in
+          rw (← c.self.view_is) (refl, w.if-not-self.false, all_white (drop start items) counted))
+      | else-not-self+else-is_blank w ↦ (λ e. absurd (let clash : Err NotYet ≡ Ok End = sym w.result-is ∙ e in cc))
+    ]

@@ -1,6 +1,11 @@
-use Rattle.std.proofs.Common.{◌≡◌}
+use Rattle.std.proofs.Common.{take}
+use Rattle.term_text.specs.ReaderView.{reader_of}
+use Rattle.term_text.specs.Reaches.{Reaches, IsOrderly}
 use Rattle.term_text.proofs.reader.Reader.run.Given as goal
 
--- nothing changes before the first byte
+-- the bytes so far led here
 abbrev pub invariant-loop-taken : goal.invariant-loop-taken
-invariant-loop-taken l = l.taken ≡ 0 → l.self ≡ l.initial.self
+invariant-loop-taken l = record {
+  reached : Reaches (reader_of l.fn.self) l.fn.self.length (take l.taken l.bytes) (reader_of l.self) l.self.length;
+  order : IsOrderly (reader_of l.self) l.self.length;
+}
