@@ -1,13 +1,14 @@
 -- The fields of a feed between two calls.
 use Rattle.std.proofs.Common.{◌≡◌, ℕ, ◌+◌, ◌-◌, ◌<◌, ◌≤◌, Bool, true, false, List, [], ◌∷◌, ◌++◌, take, drop, length, refl, ap, ◌∙◌, sym, subst, arith}
-use Rattle.std.proofs.lemmas.List.{drop-drop, length-drop, take_rest}
+use Rattle.std.proofs.lemmas.List.{drop-drop, length-drop, take_rest, take-append-drop}
 use Rattle.std.proofs.Common.{◌⊎◌, inl, inr}
 use Rattle.std.proofs.Math.Seq.{take-add}
 use Rattle.std.proofs.Math.Nat.{eq-or-lt_of_le}
 use Rattle.term_text.specs.Machine.{ReaderState, first_state}
 use Rattle.term_text.specs.Reading.{is_stopped}
-use Rattle.term_text.specs.Reaches.{Reaches, IsOrderly}
+use Rattle.term_text.specs.Reaches.{Reaches, Fails, IsOrderly}
 use Rattle.term_text.proofs.Soundness.{Reaches-append}
+use Rattle.term_text.proofs.Failing.{Fails-behind}
 
 -- where nothing was read
 pub fresh_reached : (bytes : List ℕ) (start : ℕ) (n : ReaderState) (total : ℕ) → n ≡ first_state → total ≡ 0 → Reaches first_state 0 (take (start - start) (drop start bytes)) n total
@@ -56,11 +57,11 @@ rest_left items held start read same le =
     ∙ sym (drop-drop (read - start) start items)
 
 -- all that is left was read
-pub all_taken : (items : List ℕ) (start read : ℕ) → start ≤ read → read ≡ length items → take (read - start) (drop start items) ≡ drop start items
+all_taken : (items : List ℕ) (start read : ℕ) → start ≤ read → read ≡ length items → take (read - start) (drop start items) ≡ drop start items
 all_taken items start read le e = ap (λ k. take (k - start) (drop start items)) e ∙ take_rest items start
 
 -- where no full stop was read, all bytes were
-pub all_read : (items held : List ℕ) (read taken : ℕ) (b : Bool) → held ≡ items → read + taken ≤ length items → b ≡ false → (taken < length (take (length held - read) (drop read held)) → b ≡ true) → read + taken ≡ length items
+all_read : (items held : List ℕ) (read taken : ℕ) (b : Bool) → held ≡ items → read + taken ≤ length items → b ≡ false → (taken < length (take (length held - read) (drop read held)) → b ≡ true) → read + taken ≡ length items
 all_read items held read taken b same there going stop =
     let slice : length (take (length held - read) (drop read held)) ≡ length items - read = ap (λ (l : List ℕ). length (take (length l - read) (drop read l))) same ∙ ap length (take_rest items read) ∙ length-drop read items in
     by_limit (eq-or-lt_of_le there) (λ (less : read + taken < length items).
@@ -69,3 +70,19 @@ all_read items held read taken b same there going stop =
     by_limit : {i n : ℕ} → (i ≡ n) ⊎ (i < n) → (i < n → i ≡ n) → i ≡ n
     by_limit (inl e) f = e
     by_limit (inr h) f = f h
+
+-- where no full stop was read, what is left led to the state
+pub all_reached : (items held : List ℕ) (start read taken : ℕ) (m : ReaderState) (c : ℕ) (n : ReaderState) (d : ℕ) → held ≡ items → start ≤ read → read ≤ length items → Reaches first_state 0 (take (read - start) (drop start items)) m c
+    → taken ≤ length (take (length held - read) (drop read held)) → Reaches m c (take taken (take (length held - read) (drop read held))) n d → (taken < length (take (length held - read) (drop read held)) → is_stopped n.nest.place ≡ true)
+    → is_stopped n.nest.place ≡ false → Reaches first_state 0 (drop start items) n d
+all_reached items held start read taken m c n d same le there r within q stop going =
+    let all : read + taken ≡ length items = all_read items held read taken (is_stopped n.nest.place) same (read_there items held read taken same there within) going stop in
+    subst (λ (l : List ℕ). Reaches first_state 0 l n d) (all_taken items start (read + taken) (omega (arith, le)) all)
+    (more_reached items held start read taken m c n d same le r q)
+
+-- what is left fails where the bytes behind those that were read do
+pub rest_failed : (items held : List ℕ) (start read : ℕ) (m : ReaderState) (c : ℕ) → held ≡ items → start ≤ read → Reaches first_state 0 (take (read - start) (drop start items)) m c → Fails m c (take (length held - read) (drop read held)) → Fails first_state 0 (drop start items)
+rest_failed items held start read m c same le r f =
+    subst (λ (l : List ℕ). Fails first_state 0 l) (take-append-drop (read - start) (drop start items))
+    (Fails-behind (take (read - start) (drop start items)) (drop (read - start) (drop start items)) m c r
+    (subst (λ (l : List ℕ). Fails m c l) (rest_left items held start read same le) f))

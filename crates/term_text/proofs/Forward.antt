@@ -62,7 +62,7 @@ run_settled s n u x xs e f =
     let same : step (amid s u) x ≡ step (between n) x = rw (e, f) in
     ap (option_and_then (λ (m : ReaderState). run m xs)) same
 
-run_blanks : (s : NestState) (blanks rest : List ℕ) → each is_white blanks ≡ true → run (between s) (blanks ++ rest) ≡ run (between s) rest
+pub run_blanks : (s : NestState) (blanks rest : List ℕ) → each is_white blanks ≡ true → run (between s) (blanks ++ rest) ≡ run (between s) rest
 run_blanks s [] rest e = refl
 run_blanks s (x ∷ blanks) rest e =
     let p = and_parts (is_white x) (each is_white blanks) e in
@@ -96,7 +96,7 @@ step_digit s minus z d e f = rw (e, f)
 step_name : (s : NestState) (cs : List ℕ) (x : ℕ) → is_name_character x ≡ true → length cs < 255 → step (amid s (in_name cs)) x ≡ Some (amid s (in_name (cs ++ x ∷ [])))
 step_name s cs x e h = let l = lt-ltb (length cs) 255 h in rw (e, l)
 
-step_minus : (s : NestState) (d : ℕ) → is_ascii_digit d ≡ true → step (amid s in_minus) d ≡ Some (amid s (in_number true (with_digit true (pos 0) d)))
+pub step_minus : (s : NestState) (d : ℕ) → is_ascii_digit d ≡ true → step (amid s in_minus) d ≡ Some (amid s (in_number true (with_digit true (pos 0) d)))
 step_minus s d e = rw e
 
 run_on_digits : (s : NestState) (minus : Bool) (z : ℤ) (n : ℕ) (ds rest : List ℕ) → z ≡ on_side minus n → each is_ascii_digit ds ≡ true → fits (value_after minus z ds) ≡ true → run (amid s (in_number minus z)) (ds ++ rest) ≡ run (amid s (in_number minus (value_after minus z ds))) rest

@@ -13,4 +13,8 @@ pub mod Spelling
 pub mod Backward
 pub mod Reaching
 pub mod Soundness
+pub mod Lengths
+pub mod Completion
+pub mod Rests
+pub mod Failing
 pub mod FeedOrder

@@ -124,7 +124,7 @@ fronts_behind x i j r r' (inl (e, f)) = inl (ap (λ l. x ∷ l) e, f)
 fronts_behind x i j r r' (inr (inl (q, e))) = inr (inl (q, ap (λ l. x ∷ l) e))
 fronts_behind x i j r r' (inr (inr (q, e))) = inr (inr (q, ap (λ l. x ∷ l) e))
 
-same_head : (x y : ℕ) (xs ys : List ℕ) → x ∷ xs ≡ y ∷ ys → (x ≡ y) × (xs ≡ ys)
+pub same_head : (x y : ℕ) (xs ys : List ℕ) → x ∷ xs ≡ y ∷ ys → (x ≡ y) × (xs ≡ ys)
 same_head x y xs ys e = (cc, cc)
 
 fronts_of_one : (i j r r' : List ℕ) → (i ++ 46 ∷ []) ++ r ≡ (j ++ 46 ∷ []) ++ r' → Fronts_of_one i j r r'

@@ -23,7 +23,7 @@ pub record IsWhole (t : TermValue) (bytes : List ℕ) (n : ReaderState) (total :
   pub none : n.token ≡ no_token
   pub within : total ≤ 2 ^ 24
 
-going_on : (s : ReaderState) → is_stopped s.nest.place ≡ false → IsGoingOn s.nest
+pub going_on : (s : ReaderState) → is_stopped s.nest.place ≡ false → IsGoingOn s.nest
 going_on s e u same = let clash : false ≡ true = sym e ∙ ap is_stopped same in cc
 
 counted_limit : (c x : ℕ) → c < 2 ^ 24 → counted c x ≤ 2 ^ 24
@@ -61,7 +61,7 @@ whole_read (x ∷ xs) n total t r p =
     (record { nest = record { frames = tt; place = tt }; token = tt })
     (record { blanks = []; begun = []; blank = refl; token = refl; text = refl }) (omega arith) r p
 
-counted-more : (c x : ℕ) → counted (suc c) x ≡ suc (suc c)
+pub counted-more : (c x : ℕ) → counted (suc c) x ≡ suc (suc c)
 counted-more c x = by_count (λ k. k ≡ suc (suc c)) (suc c) x (λ z _. absurd (omega (arith, z))) (λ _. omega arith)
 
 -- behind the first byte of a term each byte is counted
@@ -72,7 +72,7 @@ counted-begun s c (x ∷ xs) n total r =
     ∙ (let e : suc (suc c) + length xs ≡ suc c + length (x ∷ xs) = omega arith in e)
 
 -- a test that is done in front
-by_test : (b : Bool) (P : Bool → Type 0) → (b ≡ true → P true) → (b ≡ false → P false) → P b
+pub by_test : (b : Bool) (P : Bool → Type 0) → (b ≡ true → P true) → (b ≡ false → P false) → P b
 by_test true P f g = f refl
 by_test false P f g = g refl
 

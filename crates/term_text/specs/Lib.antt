@@ -8,4 +8,5 @@ pub mod Reading
 pub mod Good
 pub mod ReaderView
 pub mod Next
+pub mod Script
 pub mod Reaches

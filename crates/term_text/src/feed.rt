@@ -1,8 +1,9 @@
-ghost use Rattle.std.specs.Prelude.{◌≡◌, ◌<◌, ◌≤◌, ◌+◌, ◌^◌, ℕ, [], ◌++◌, length, drop, true, false, IsTrue, IsErrOf, OnOk, OnErr, vec_len};
+ghost use Rattle.std.specs.Prelude.{◌≡◌, ◌<◌, ◌≤◌, ◌+◌, ◌^◌, ℕ, [], ◌++◌, ◌⊎◌, length, drop, true, false, IsTrue, OnOk, OnErr, vec_len};
 ghost use Rattle.dets_term.specs.TermValue.{TermValue};
 ghost use Rattle.term_text.specs.Token.{is_white, each};
 ghost use Rattle.term_text.specs.FeedState.{Takes, total};
 ghost use Rattle.term_text.specs.Next.{IsNext, ends};
+ghost use Rattle.term_text.specs.Script.{Answers};
 ghost use Rattle.term_text.specs.declared.feed.TextFault.TheVariants.{Memory as OutOfMemory};
 
 use crate::Memory;
@@ -129,13 +130,14 @@ impl TextFeed {
     /// bytes from a term's first one on hold no full stop; it comes again at each later call. `Memory`
     /// changes nothing.
     pub fn next(&mut self) -> Result<Fed, TextFault>
-        ensures refused { IsTrue self.old.refused → IsErrOf result TextFault.NotYet }
-        ensures not_yet { IsErrOf result TextFault.NotYet → self.new ≡ record self.old { refused = true } }
-        ensures memory { IsErrOf result TextFault.Memory → self.new ≡ self.old }
-        ensures again { result ≡ Ok Fed.Again → (self.new ≡ self.old) × (self.old.finished ≡ false) }
-        ensures end { result ≡ Ok Fed.End → (self.new ≡ self.old) × (self.old.finished ≡ true) × (each is_white self.old.left ≡ true) }
         ensures term { (t : TermValue) → result ≡ Ok (Fed.Term t)
-            → (taken : ℕ) × Takes self.old self.new taken × IsNext self.old t taken }
+            → (taken : ℕ) × Takes self.old self.new taken × IsNext self.old.finished self.old.left t taken }
+        ensures again { result ≡ Ok Fed.Again → (self.new ≡ self.old) × Answers self.old.finished self.old.left (Ok Fed.Again) }
+        ensures end { result ≡ Ok Fed.End → (self.new ≡ self.old) × Answers self.old.finished self.old.left (Ok Fed.End) }
+        ensures not_yet { result ≡ Err TextFault.NotYet → (self.new ≡ record self.old { refused = true })
+            × (self.old.refused ≡ true ⊎ Answers self.old.finished self.old.left (Err TextFault.NotYet)) }
+        ensures refused { IsTrue self.old.refused → result ≡ Err TextFault.NotYet }
+        ensures memory { result ≡ Err TextFault.Memory → self.new ≡ self.old }
         ensures keeps { (total self.new ≡ total self.old) × (self.new.finished ≡ self.old.finished) }
     {
         if self.refused {
@@ -150,11 +152,12 @@ impl TextFeed {
 
     /// Reads what was fed and not read yet, and answers.
     fn read_on(&mut self) -> Result<Fed, TextFault>
-        ensures err { OnErr result (self.new ≡ self.old) }
-        ensures again { result ≡ Ok Fed.Again → (self.new ≡ self.old) × (self.old.finished ≡ false) }
-        ensures end { result ≡ Ok Fed.End → (self.new ≡ self.old) × (self.old.finished ≡ true) × (each is_white self.old.left ≡ true) }
         ensures term { (t : TermValue) → result ≡ Ok (Fed.Term t)
-            → (taken : ℕ) × Takes self.old self.new taken × IsNext self.old t taken }
+            → (taken : ℕ) × Takes self.old self.new taken × IsNext self.old.finished self.old.left t taken }
+        ensures again { result ≡ Ok Fed.Again → (self.new ≡ self.old) × Answers self.old.finished self.old.left (Ok Fed.Again) }
+        ensures end { result ≡ Ok Fed.End → (self.new ≡ self.old) × Answers self.old.finished self.old.left (Ok Fed.End) }
+        ensures not_yet { result ≡ Err TextFault.NotYet → Answers self.old.finished self.old.left (Err TextFault.NotYet) }
+        ensures err { OnErr result (self.new ≡ self.old) }
         ensures keeps { (total self.new ≡ total self.old) × (self.new.finished ≡ self.old.finished) }
     {
         match self.reader.run(self.alloc, &self.bytes[self.read..]) {
