@@ -17,4 +17,5 @@ pub mod Lengths
 pub mod Completion
 pub mod Rests
 pub mod Failing
+pub mod Scripts
 pub mod FeedOrder

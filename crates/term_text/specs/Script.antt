@@ -43,6 +43,11 @@ IsScript finished bytes [] rest = HasNone finished bytes × IsRest rest bytes
 IsScript finished bytes (first ∷ others) rest =
     IsNext finished bytes first.term first.bytes × IsScript finished (drop first.bytes bytes) others rest
 
+-- the bytes behind these terms
+abbrev pub behind : List Placed → List ℕ → List ℕ
+behind [] bytes = bytes
+behind (first ∷ others) bytes = behind others (drop first.bytes bytes)
+
 -- what a feed answers where no term stands in front
 abbrev pub answer : Bool → Rest → Result Fed TextFault
 answer false blank = Ok Again

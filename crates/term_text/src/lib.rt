@@ -6,7 +6,10 @@
 #![tactic(auto)]
 
 pub use feed::{Fed, TextFault, TextFeed};
-pub use laws::bytes_begin_with_one_term;
+pub use laws::{
+    a_fault_stays_whatever_follows, a_piece_has_the_first_terms_of_the_whole,
+    a_script_goes_on_behind_its_first_term, bytes_begin_with_one_term, bytes_have_one_script,
+};
 pub use printing::print;
 pub use std::alloc::AllocError as Memory;
 
