@@ -9,3 +9,4 @@ pub mod Good
 pub mod ReaderView
 pub mod Next
 pub mod Reaches
+pub mod IsPlain

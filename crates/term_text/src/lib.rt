@@ -7,6 +7,9 @@
 
 pub use feed::{Fed, TextFault, TextFeed};
 pub use laws::bytes_begin_with_one_term;
+pub use printed_laws::{
+    printed_form_has_no_byte_below_32, printed_form_is_a_sentence, printed_form_is_of_one_term,
+};
 pub use printing::print;
 pub use std::alloc::AllocError as Memory;
 
@@ -15,6 +18,7 @@ mod integer;
 mod laws;
 mod name;
 mod nest;
+mod printed_laws;
 mod printing;
 mod reader;
 #[cfg(test)]
