@@ -18,11 +18,11 @@ use Rattle.term_text.specs.Machine.{NestState, may_begin, complete, take_token, 
 abbrev pub on_side : Bool → ℕ → ℤ
 on_side minus n = cond minus (neg_ℤ (pos n)) (pos n)
 
-with_digit-on_side : (minus : Bool) (n d : ℕ) → with_digit minus (on_side minus n) d ≡ on_side minus (10 * n + (d - 48))
+pub with_digit-on_side : (minus : Bool) (n d : ℕ) → with_digit minus (on_side minus n) d ≡ on_side minus (10 * n + (d - 48))
 with_digit-on_side true n d = omega (arith, ints)
 with_digit-on_side false n d = omega (arith, ints)
 
-with_digit-zero : (minus : Bool) (d : ℕ) → with_digit minus (pos 0) d ≡ on_side minus (d - 48)
+pub with_digit-zero : (minus : Bool) (d : ℕ) → with_digit minus (pos 0) d ≡ on_side minus (d - 48)
 with_digit-zero true d = omega (arith, ints)
 with_digit-zero false d = omega (arith, ints)
 

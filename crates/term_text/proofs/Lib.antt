@@ -19,3 +19,5 @@ pub mod Rests
 pub mod Failing
 pub mod Scripts
 pub mod FeedOrder
+pub mod PrintedText
+pub mod PrintedBytes

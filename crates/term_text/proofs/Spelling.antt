@@ -61,14 +61,14 @@ value_after-push : (minus : Bool) (z : ℤ) (ds : List ℕ) (x : ℕ) → value_
 value_after-push minus z [] x = refl
 value_after-push minus z (d ∷ ds) x = value_after-push minus (with_digit minus z d) ds x
 
-Decimal-push : (minus : Bool) (z : ℤ) (ds : List ℕ) (x : ℕ) → Decimal minus z ds → is_ascii_digit x ≡ true → Decimal minus (with_digit minus z x) (ds ++ x ∷ [])
+pub Decimal-push : (minus : Bool) (z : ℤ) (ds : List ℕ) (x : ℕ) → Decimal minus z ds → is_ascii_digit x ≡ true → Decimal minus (with_digit minus z x) (ds ++ x ∷ [])
 Decimal-push minus z ds x h e = record {
   some = omega (arith, length_push ds x);
   decimal = each-push is_ascii_digit ds x h.decimal e;
   value = ap (λ v. with_digit minus v x) h.value ∙ sym (value_after-push minus (pos 0) ds x);
 }
 
-Decimal-first : (minus : Bool) (x : ℕ) → is_ascii_digit x ≡ true → Decimal minus (with_digit minus (pos 0) x) (x ∷ [])
+pub Decimal-first : (minus : Bool) (x : ℕ) → is_ascii_digit x ≡ true → Decimal minus (with_digit minus (pos 0) x) (x ∷ [])
 Decimal-first minus x e = record {
   some = omega arith;
   decimal = and_from (is_ascii_digit x) true e refl;

@@ -10,3 +10,4 @@ pub mod ReaderView
 pub mod Next
 pub mod Script
 pub mod Reaches
+pub mod IsPlain

@@ -10,6 +10,9 @@ pub use laws::{
     a_fault_stays_whatever_follows, a_piece_has_the_first_terms_of_the_whole,
     a_script_goes_on_behind_its_first_term, bytes_begin_with_one_term, bytes_have_one_script,
 };
+pub use printed_laws::{
+    printed_form_has_no_byte_below_32, printed_form_is_a_sentence, printed_form_is_of_one_term,
+};
 pub use printing::print;
 pub use std::alloc::AllocError as Memory;
 
@@ -18,6 +21,7 @@ mod integer;
 mod laws;
 mod name;
 mod nest;
+mod printed_laws;
 mod printing;
 mod reader;
 #[cfg(test)]
