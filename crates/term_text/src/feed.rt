@@ -8,7 +8,7 @@ ghost use Rattle.term_text.specs.declared.feed.TextFault.TheVariants.{Memory as 
 
 use crate::Memory;
 use crate::reader::{Reader, is_white_space};
-use dets_term::{Term, TermFault};
+use dets_term::Term;
 use std::alloc::{AllocFailed, Global};
 use std::marker::Model;
 
@@ -60,15 +60,6 @@ impl<T: Drop> From<AllocFailed<T>> for TextFault {
 
     fn from(_error: AllocFailed<T>) -> TextFault {
         TextFault::Memory
-    }
-}
-
-impl From<TermFault> for TextFault {
-    fn from(fault: TermFault) -> TextFault {
-        match fault {
-            TermFault::Depth | TermFault::LongAtom | TermFault::ManyParts => TextFault::NotYet,
-            TermFault::Memory => TextFault::Memory,
-        }
     }
 }
 
