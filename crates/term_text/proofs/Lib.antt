@@ -19,5 +19,6 @@ pub mod Rests
 pub mod Failing
 pub mod Scripts
 pub mod FeedOrder
+pub mod Existence
 pub mod PrintedText
 pub mod PrintedBytes

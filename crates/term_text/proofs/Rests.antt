@@ -10,7 +10,7 @@ use Rattle.term_text.specs.Machine.{Place, want, opened, after, whole, stopped, 
 use Rattle.term_text.specs.Reading.{is_stopped}
 use Rattle.term_text.specs.Reaches.{counted, Reaches, IsOrderly}
 use Rattle.term_text.specs.Next.{text_length, ends, IsNext}
-use Rattle.term_text.specs.Script.{blank, begun, faulty, HasNone, IsScript, answer, Answers}
+use Rattle.term_text.specs.Script.{Rest, blank, begun, faulty, HasNone, IsScript, answer, Answers}
 use Rattle.term_text.proofs.Forward.{between, run_step, run_blanks}
 use Rattle.term_text.proofs.Sentences.{reaches, stopped_nest}
 use Rattle.term_text.proofs.Readings.{one_reading}
@@ -61,6 +61,12 @@ going_none finished bytes n d r going = λ t taken next.
 -- white space, or a front of a text
 going_script : (finished : Bool) (bytes : List ℕ) (n : ReaderState) (d : ℕ) → Reaches first_state 0 bytes n d → IsOrderly n d → is_stopped n.nest.place ≡ false → each is_white bytes ≡ false → IsScript finished bytes [] begun
 going_script finished bytes n d r o going dark = (going_none finished bytes n d r going, (dark, front_of_text bytes n d r o.good going (o.short going)))
+
+pub going_rest : (finished : Bool) (bytes : List ℕ) (n : ReaderState) (d : ℕ) → Reaches first_state 0 bytes n d → IsOrderly n d → is_stopped n.nest.place ≡ false → (rest : Rest) × IsScript finished bytes [] rest
+going_rest finished bytes n d r o going =
+    by_test (each is_white bytes) (λ _. (rest : Rest) × IsScript finished bytes [] rest)
+    (λ white. (blank, (going_none finished bytes n d r going, white)))
+    (λ dark. (begun, going_script finished bytes n d r o going dark))
 
 pub more_needed : (bytes : List ℕ) (n : ReaderState) (d : ℕ) → Reaches first_state 0 bytes n d → IsOrderly n d → is_stopped n.nest.place ≡ false → Answers false bytes (Ok Again)
 more_needed bytes n d r o going =
@@ -160,7 +166,7 @@ stopped_term (whole t) e = cc
 stopped_term (stopped t) e = (t, refl)
 
 -- what was read to a full stop is a sentence
-sentence_read : (bytes : List ℕ) (n : ReaderState) (d : ℕ) → Reaches first_state 0 bytes n d → is_stopped n.nest.place ≡ true → (t : TermValue) × IsSentence t bytes [] × (text_length bytes ≤ 2 ^ 24)
+pub sentence_read : (bytes : List ℕ) (n : ReaderState) (d : ℕ) → Reaches first_state 0 bytes n d → is_stopped n.nest.place ≡ true → (t : TermValue) × IsSentence t bytes [] × (text_length bytes ≤ 2 ^ 24)
 sentence_read bytes n d r e =
     let term = stopped_term n.nest.place e in
     let read = whole_read bytes n d term.0 r term.1 in

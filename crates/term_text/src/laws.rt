@@ -12,6 +12,12 @@ pub fn bytes_begin_with_one_term()
         → (t ≡ u) × (rest ≡ other) }
 {}
 
+/// All bytes have a script.
+#[tactic(auto, using(crate::proofs::Existence::script_exists))]
+pub fn bytes_have_a_script()
+    ensures { (finished : Bool) (bytes : List ℕ) → (terms : List Placed) × ((rest : Rest) × IsScript finished bytes terms rest) }
+{}
+
 /// Bytes have at most one script.
 #[tactic(auto, using(crate::proofs::Scripts::one_script))]
 pub fn bytes_have_one_script()

@@ -8,7 +8,8 @@
 pub use feed::{Fed, TextFault, TextFeed};
 pub use laws::{
     a_fault_stays_whatever_follows, a_piece_has_the_first_terms_of_the_whole,
-    a_script_goes_on_behind_its_first_term, bytes_begin_with_one_term, bytes_have_one_script,
+    a_script_goes_on_behind_its_first_term, bytes_begin_with_one_term, bytes_have_a_script,
+    bytes_have_one_script,
 };
 pub use printed_laws::{
     printed_form_has_no_byte_below_32, printed_form_is_a_sentence, printed_form_is_of_one_term,
