@@ -6,7 +6,7 @@ use Rattle.std.proofs.lemmas.Bool.{cases_lt}
 use Rattle.dets_term.specs.TermValue.{TermValue}
 use Rattle.term_text.specs.Token.{is_white, each, IsSentence}
 use Rattle.term_text.specs.Next.{text_length, ends, IsNext}
-use Rattle.term_text.specs.Script.{IsFront, Rest, blank, begun, faulty, IsRest, Placed, IsScript, behind}
+use Rattle.term_text.specs.Script.{IsFront, Rest, blank, begun, faulty, IsRest, Placed, AreNext, IsScript, behind}
 use Rattle.term_text.proofs.Readings.{one_reading}
 use Rattle.term_text.proofs.Soundness.{by_test}
 use Rattle.term_text.proofs.Rests.{next_sentence, each_front}
@@ -141,3 +141,26 @@ fault_stays finished bytes more s = (
     λ f. s.1.1 (front_of_front bytes more f),
   ),
 )
+
+-- ---- terms in front of some bytes
+
+pub AreNext-append : (finished : Bool) (bytes : List ℕ) (ts us : List Placed) → AreNext finished bytes ts → AreNext finished (behind ts bytes) us → AreNext finished bytes (ts ++ us)
+AreNext-append finished bytes [] us n m = m
+AreNext-append finished bytes (t ∷ ts) us n m = (n.0, AreNext-append finished (drop t.bytes bytes) ts us n.1 m)
+
+pub behind-append : (bytes : List ℕ) (ts us : List Placed) → behind (ts ++ us) bytes ≡ behind us (behind ts bytes)
+behind-append bytes [] us = refl
+behind-append bytes (t ∷ ts) us = behind-append (drop t.bytes bytes) ts us
+
+-- more bytes behind them change nothing
+pub AreNext-more : (finished : Bool) (bytes more : List ℕ) (ts : List Placed) → AreNext false bytes ts → AreNext finished (bytes ++ more) ts × (behind ts (bytes ++ more) ≡ behind ts bytes ++ more)
+AreNext-more finished bytes more [] n = (tt, refl)
+AreNext-more finished bytes more (t ∷ ts) n =
+    let same : drop t.bytes (bytes ++ more) ≡ drop t.bytes bytes ++ more = drop-append-le t.bytes bytes more n.0.there in
+    let others = AreNext-more finished (drop t.bytes bytes) more ts n.1 in
+    ((next-more finished bytes more t.term t.bytes n.0, subst (λ (l : List ℕ). AreNext finished l ts) (sym same) others.0), ap (behind ts) same ∙ others.1)
+
+-- and the script of what stands behind them
+pub AreNext-script : (finished : Bool) (bytes : List ℕ) (ts us : List Placed) (rest : Rest) → AreNext finished bytes ts → IsScript finished (behind ts bytes) us rest → IsScript finished bytes (ts ++ us) rest
+AreNext-script finished bytes [] us rest n s = s
+AreNext-script finished bytes (t ∷ ts) us rest n s = (n.0, AreNext-script finished (drop t.bytes bytes) ts us rest n.1 s)

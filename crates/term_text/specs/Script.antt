@@ -43,6 +43,11 @@ IsScript finished bytes [] rest = HasNone finished bytes × IsRest rest bytes
 IsScript finished bytes (first ∷ others) rest =
     IsNext finished bytes first.term first.bytes × IsScript finished (drop first.bytes bytes) others rest
 
+-- these terms stand in front, one behind another
+abbrev pub AreNext : Bool → List ℕ → List Placed → Type 0
+AreNext finished bytes [] = Unit {0}
+AreNext finished bytes (first ∷ others) = IsNext finished bytes first.term first.bytes × AreNext finished (drop first.bytes bytes) others
+
 -- the bytes behind these terms
 abbrev pub behind : List Placed → List ℕ → List ℕ
 behind [] bytes = bytes
