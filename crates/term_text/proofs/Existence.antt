@@ -1,16 +1,17 @@
 -- All bytes have a script.
-use Rattle.std.proofs.Common.{◌≡◌, ℕ, zero, suc, ◌<◌, ◌≤◌, ◌^◌, Bool, true, false, List, [], ◌∷◌, ◌++◌, length, length-append, Option, Some, None, ◌⊎◌, inl, inr, refl, ap, ◌∙◌, sym, subst, arith}
+use Rattle.std.proofs.Common.{◌≡◌, ℕ, zero, suc, ◌<◌, ◌≤◌, ◌^◌, Bool, true, false, List, [], ◌∷◌, ◌++◌, length, length-append, Option, Some, None, Ok, ◌⊎◌, inl, inr, refl, ap, ◌∙◌, sym, subst, arith}
 use Rattle.std.proofs.lemmas.Bool.{cases_Bool, cases_lt}
 use Rattle.std.proofs.Math.Seq.{take-append_seam, drop-append_seam}
 use Rattle.dets_term.specs.TermValue.{TermValue}
+use Rattle.term_text.specs.declared.feed.Fed.TheVariants.{Again}
 use Rattle.term_text.specs.Token.{IsSentence}
 use Rattle.term_text.specs.Machine.{ReaderState, first_state, step}
 use Rattle.term_text.specs.Reading.{is_stopped}
 use Rattle.term_text.specs.Reaches.{counted, IsInTime, Reaches, Fails, IsOrderly}
 use Rattle.term_text.specs.Next.{text_length, ends}
-use Rattle.term_text.specs.Script.{Rest, Placed, IsScript}
+use Rattle.term_text.specs.Script.{Rest, Placed, IsScript, Answers}
 use Rattle.term_text.proofs.Reaching.{orderly_step}
-use Rattle.term_text.proofs.Rests.{going_rest, sentence_read, stop_undecided, stop_is_none}
+use Rattle.term_text.proofs.Rests.{going_rest, more_needed, sentence_read, stop_undecided, stop_is_none}
 use Rattle.term_text.proofs.Failing.{failed}
 use Rattle.term_text.proofs.FeedOrder.{fresh_order, some_taken}
 
@@ -140,3 +141,7 @@ script_within (suc n) finished bytes h =
 
 pub script_exists : (finished : Bool) (bytes : List ℕ) → HasScript finished bytes
 script_exists finished bytes = script_within (length bytes) finished bytes (omega arith)
+
+-- where nothing was fed, more is needed
+pub nothing_fed : Answers false [] (Ok Again)
+nothing_fed = more_needed [] first_state 0 (refl, refl) (fresh_order first_state 0 refl refl) refl
