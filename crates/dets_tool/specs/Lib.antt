@@ -2,3 +2,5 @@
 pub mod FeedValue
 pub mod Job
 pub mod Status
+pub mod Run
+pub mod Serving

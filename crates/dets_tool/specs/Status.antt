@@ -1,5 +1,8 @@
 -- The code and the line of each end of a run. All of it is this project's own.
-use Rattle.std.specs.Prelude.{ℕ, List, [], ◌∷◌, ◌++◌, codes, decimal}
+use Rattle.std.specs.Prelude.{ℕ, ◌^◌, List, [], ◌∷◌, ◌++◌, codes, decimal, Result, Ok, Err}
+use Rattle.dets_tool.specs.declared.input_feed.PullFault.{PullFault}
+use Rattle.dets_tool.specs.declared.input_feed.PullFault.TheVariants.{SourceFault as SourceFailed, TooMuch as PastBudget}
+use Rattle.dets_tool.specs.declared.status.InputWhy.TheVariants.{TooMuch}
 use Rattle.dets_tool.specs.declared.status.Status.{Status}
 use Rattle.dets_tool.specs.declared.status.Status.TheVariants.{Done, Input, WordsRefused, SourceFault, Output, Memory, NotYet}
 
@@ -26,3 +29,13 @@ line_of SourceFault = said (codes "source fault")
 line_of Output = said (codes "output fault")
 line_of Memory = said (codes "out of memory")
 line_of (NotYet command) = said (codes "not yet at command " ++ decimal command)
+
+-- the end of a run where a pull gave no piece
+abbrev pub status_of_pull : PullFault → Status
+status_of_pull SourceFailed = SourceFault
+status_of_pull PastBudget = Input (2 ^ 32) TooMuch
+
+-- the end of a run that went on to its last command, or ended before
+abbrev pub status_of_run : Result Unit Status → Status
+status_of_run (Ok done) = Done
+status_of_run (Err status) = status

@@ -1,0 +1,238 @@
+-- What a run has come to where it ends.
+use Rattle.std.proofs.Common.{◌≡◌, ℕ, ◌+◌, ◌<◌, ◌≤◌, ◌^◌, Bool, true, false, List, [], ◌∷◌, ◌++◌, length, length-append, take, drop, Option, Some, None, option_map, Ok, Err, ◌⊎◌, inl, inr, refl, ap, ◌∙◌, sym, subst, append_assoc, append-nil, arith}
+use Rattle.std.proofs.lemmas.List.{take-append-drop}
+use Rattle.std.specs.Option.{option_map_or}
+use Rattle.dets_term.specs.TermValue.{TermValue}
+use Rattle.term_text.specs.Next.{IsNext}
+use Rattle.term_text.specs.Script.{Rest, blank, begun, faulty, Placed, IsScript, behind, answer, Answers}
+use Rattle.term_text.specs.declared.feed.Fed.TheVariants.{Again, End}
+use Rattle.term_text.specs.declared.feed.TextFault.TheVariants.{NotYet as NotYetText}
+use Rattle.term_text.proofs.Scripts.{script_behind, AreNext-script}
+use Rattle.term_text.proofs.Existence.{script_exists}
+use Rattle.run_model.specs.State.{State, first_state}
+use Rattle.run_model.specs.Step.{step, replies}
+use Rattle.host_model.specs.Source.{Stream}
+use Rattle.host_model.specs.Host.{SaysFront}
+use Rattle.dets_tool.specs.declared.status.Status.{Status}
+use Rattle.dets_tool.specs.declared.status.Status.TheVariants.{Done, Input, WordsRefused, SourceFault, Output, Memory, NotYet}
+use Rattle.dets_tool.specs.declared.status.InputWhy.{InputWhy}
+use Rattle.dets_tool.specs.Run.{reply_line, reply_text, terms_of, Course, replies_of, HasWrittenAll, GoesOn, IsNotBuilt, IsDone, IsEndOf, Ran}
+use Rattle.dets_tool.specs.Serving.{Standing, Serves, IsUnserved, Stops, at_command, at_text, at_memory, Breaks, IsWaiting}
+use Rattle.dets_tool.proofs.Serving.{said_nothing, said_both, reply_text-append, terms_of-append, terms_of-length}
+
+-- a run that has taken these bytes, and served no command yet
+abbrev pub taken : List ℕ → Option (List ℕ) → Standing
+taken bytes said = record { left = bytes; state = first_state; replied = 0; said = said }
+
+-- where a run ends: the bytes, what it served of them, the script of what is left, and the part of a reply that was written
+record End_of (finished : Bool) (bytes : List ℕ) (said : Option (List ℕ)) : Type 0 where
+  here : Standing
+  served : Serves finished (taken bytes said) here
+  placed : List Placed
+  rest : Rest
+  script : IsScript finished here.left placed rest
+  part : List ℕ
+
+abbrev course : (finished : Bool) (bytes : List ℕ) (said : Option (List ℕ)) → End_of finished bytes said → List ℕ → List ℕ → Course
+course finished bytes said e past left = record {
+  bytes = bytes;
+  past = past;
+  left = left;
+  ended = finished;
+  commands = terms_of (e.served.commands ++ e.placed);
+  rest = e.rest;
+  written = reply_text e.served.answers ++ e.part;
+}
+
+-- the replies to all commands: those that were written, and those to what is left
+replies_there : (finished : Bool) (bytes : List ℕ) (said : Option (List ℕ)) (e : End_of finished bytes said) (past left : List ℕ) → replies_of (course finished bytes said e past left) ≡ e.served.answers ++ replies e.here.state (terms_of e.placed)
+replies_there finished bytes said e past left =
+    ap (replies first_state) (terms_of-append e.served.commands e.placed) ∙ e.served.served (terms_of e.placed)
+
+made : (status : Status) (finished : Bool) (bytes past left input : List ℕ) (said now : Option (List ℕ)) (e : End_of finished bytes said) (more : List ℕ)
+    → reply_text (replies e.here.state (terms_of e.placed)) ≡ e.part ++ more → now ≡ option_map (λ (output : List ℕ). output ++ e.part) e.here.said
+    → input ≡ bytes ++ (past ++ left) → length bytes ≤ 2 ^ 32 → IsEndOf status (course finished bytes said e past left)
+    → Ran status input (Some (record { left = left; ended = finished })) said now
+made status finished bytes past left input said now e more h o t w end = record {
+  course = course finished bytes said e past left;
+  told = refl;
+  taken = t;
+  within = w;
+  placed = e.served.commands ++ e.placed;
+  terms = refl;
+  script =
+      AreNext-script finished bytes e.served.commands e.placed e.rest e.served.next
+      (subst (λ (l : List ℕ). IsScript finished l e.placed e.rest) e.served.left e.script);
+  output = o ∙ ap (option_map (λ (output : List ℕ). output ++ e.part)) e.served.said ∙ said_both said (reply_text e.served.answers) e.part;
+  front = record {
+    rest = more;
+    whole =
+        ap reply_text (replies_there finished bytes said e past left) ∙ reply_text-append e.served.answers (replies e.here.state (terms_of e.placed))
+        ∙ ap (λ l. reply_text e.served.answers ++ l) h ∙ sym (append_assoc (reply_text e.served.answers) e.part more);
+  };
+  end = end;
+}
+
+-- ---- where no reply is left
+
+-- all replies were written, where what is left has none
+all_written : (finished : Bool) (bytes : List ℕ) (said : Option (List ℕ)) (e : End_of finished bytes said) (past left : List ℕ) → e.part ≡ [] → replies e.here.state (terms_of e.placed) ≡ [] → HasWrittenAll (course finished bytes said e past left)
+all_written finished bytes said e past left p r =
+    ap (λ l. reply_text e.served.answers ++ l) p ∙ append-nil (reply_text e.served.answers)
+    ∙ ap reply_text (sym (replies_there finished bytes said e past left ∙ ap (λ l. e.served.answers ++ l) r ∙ append-nil e.served.answers))
+
+replies_count : (finished : Bool) (bytes : List ℕ) (said : Option (List ℕ)) (e : End_of finished bytes said) (past left : List ℕ) → replies e.here.state (terms_of e.placed) ≡ [] → length (replies_of (course finished bytes said e past left)) ≡ length e.served.commands
+replies_count finished bytes said e past left r =
+    ap length (replies_there finished bytes said e past left ∙ ap (λ l. e.served.answers ++ l) r ∙ append-nil e.served.answers) ∙ e.served.all
+
+commands_count : (finished : Bool) (bytes : List ℕ) (said : Option (List ℕ)) (e : End_of finished bytes said) (past left : List ℕ) → length ((course finished bytes said e past left).commands) ≡ length e.served.commands + length e.placed
+commands_count finished bytes said e past left = terms_of-length (e.served.commands ++ e.placed) ∙ length-append e.served.commands e.placed
+
+-- the end where no term stands in front of what is left
+no_more : (finished : Bool) (bytes : List ℕ) (said : Option (List ℕ)) (here : Standing) → Serves finished (taken bytes said) here → (rest : Rest) → IsScript finished here.left [] rest → End_of finished bytes said
+no_more finished bytes said here s rest script = record { here = here; served = s; placed = []; rest = rest; script = script; part = [] }
+
+goes_on : (bytes : List ℕ) (said : Option (List ℕ)) (here : Standing) (s : Serves false (taken bytes said) here) (rest : Rest) (script : IsScript false here.left [] rest) (past left : List ℕ)
+    → answer false rest ≡ Ok Again → GoesOn (course false bytes said (no_more false bytes said here s rest script) past left)
+goes_on bytes said here s rest script past left e =
+    let end = no_more false bytes said here s rest script in record {
+      written = all_written false bytes said end past left refl refl;
+      all = omega (arith, replies_count false bytes said end past left refl, commands_count false bytes said end past left);
+      open_end = e;
+    }
+
+-- while more input may come, an answer that waits is that more is needed
+awaited : (left : List ℕ) → IsWaiting false left → (rest : Rest) × (IsScript false left [] rest × (answer false rest ≡ Ok Again))
+awaited left (inl a) = (a.rest, (a.script, sym a.given))
+awaited left (inr a) = absurd (no_end a.rest a.given)
+  where
+    no_end : (r : Rest) → Ok End ≡ answer false r → ⊥
+    no_end blank e = cc
+    no_end begun e = cc
+    no_end faulty e = cc
+
+-- and at its end that there is none
+awaited_end : (left : List ℕ) → IsWaiting true left → (rest : Rest) × (IsScript true left [] rest × (rest ≡ blank))
+awaited_end left (inl a) = absurd (no_again a.rest a.given)
+  where
+    no_again : (r : Rest) → Ok Again ≡ answer true r → ⊥
+    no_again blank e = cc
+    no_again begun e = cc
+    no_again faulty e = cc
+awaited_end left (inr a) = (a.rest, (a.script, blank_end a.rest a.given))
+  where
+    blank_end : (r : Rest) → Ok End ≡ answer true r → r ≡ blank
+    blank_end blank e = refl
+    blank_end begun e = cc
+    blank_end faulty e = cc
+
+pub ran_source_fault : (bytes left input : List ℕ) (said : Option (List ℕ)) (here : Standing) → Serves false (taken bytes said) here → IsWaiting false here.left
+    → input ≡ bytes ++ left → length bytes ≤ 2 ^ 32 → Ran SourceFault input (Some (record { left = left; ended = false })) said here.said
+ran_source_fault bytes left input said here s w t h =
+    let a = awaited here.left w in
+    made SourceFault false bytes [] left input said here.said (no_more false bytes said here s a.0 a.1.0) [] refl (said_nothing here.said) t h
+    (refl, goes_on bytes said here s a.0 a.1.0 [] left a.1.1)
+
+pub ran_too_much : (bytes past left input : List ℕ) (said : Option (List ℕ)) (why : InputWhy) (here : Standing) → Serves false (taken bytes said) here → IsWaiting false here.left
+    → input ≡ bytes ++ (past ++ left) → length bytes ≡ 2 ^ 32 → 0 < length past → Ran (Input (2 ^ 32) why) input (Some (record { left = left; ended = false })) said here.said
+ran_too_much bytes past left input said why here s w t h p =
+    let a = awaited here.left w in
+    made (Input (2 ^ 32) why) false bytes past left input said here.said (no_more false bytes said here s a.0 a.1.0) [] refl (said_nothing here.said) t (omega (arith, h))
+    (refl, h, p, goes_on bytes said here s a.0 a.1.0 past left a.1.1)
+
+pub ran_done : (bytes input : List ℕ) (said : Option (List ℕ)) (here : Standing) → Serves true (taken bytes said) here → IsWaiting true here.left
+    → input ≡ bytes → length bytes ≤ 2 ^ 32 → Ran Done input (Some (record { left = []; ended = true })) said here.said
+ran_done bytes input said here s w t h =
+    let a = awaited_end here.left w in
+    let end = no_more true bytes said here s a.0 a.1.0 in
+    made Done true bytes [] [] input said here.said end [] refl (said_nothing here.said) (t ∙ sym (append-nil bytes)) h
+    (
+      refl,
+      record {
+        written = all_written true bytes said end [] [] refl refl;
+        all = omega (arith, replies_count true bytes said end [] [] refl, commands_count true bytes said end [] []);
+        ended = refl;
+        read = refl;
+        blank_rest = a.1.1;
+      },
+    )
+
+-- ---- where a run breaks
+
+-- the end where a command stands in front of what is left
+at_next : (finished : Bool) (bytes : List ℕ) (said : Option (List ℕ)) (here : Standing) → Serves finished (taken bytes said) here → (t : TermValue) (taken_bytes : ℕ) → IsNext finished here.left t taken_bytes → (part : List ℕ) → End_of finished bytes said
+at_next finished bytes said here s t n next part =
+    let all = script_exists finished here.left in
+    let on = script_behind finished here.left t n all.0 all.1.0 next all.1.1 in
+    record { here = here; served = s; placed = record { term = t; bytes = n } ∷ on.0; rest = all.1.0; script = (next, on.2); part = part }
+
+first_reply : (state : State) (t : TermValue) (others : List TermValue) (reply : TermValue) (after : State) → step state t ≡ Some (reply, after) → replies state (t ∷ others) ≡ reply ∷ replies after others
+first_reply state t others reply after e = ap (λ o. option_map_or (λ (served : TermValue × State). served.0 ∷ replies served.1 others) o []) e
+
+no_reply : (state : State) (t : TermValue) (others : List TermValue) → step state t ≡ None → replies state (t ∷ others) ≡ []
+no_reply state t others e = ap (λ o. option_map_or (λ (served : TermValue × State). served.0 ∷ replies served.1 others) o []) e
+
+ran_unserved : (status : Status) (finished : Bool) (bytes left input : List ℕ) (said now : Option (List ℕ)) (here : Standing) → Serves finished (taken bytes said) here → (t : TermValue) (n : ℕ) → IsNext finished here.left t n
+    → IsUnserved status here.state here.replied t here.said now → input ≡ bytes ++ left → length bytes ≤ 2 ^ 32 → Ran status input (Some (record { left = left; ended = finished })) said now
+ran_unserved Done finished bytes left input said now here s t n next u i h = absurd u
+ran_unserved (Input offset why) finished bytes left input said now here s t n next u i h = absurd u
+ran_unserved WordsRefused finished bytes left input said now here s t n next u i h = absurd u
+ran_unserved SourceFault finished bytes left input said now here s t n next u i h = absurd u
+ran_unserved Output finished bytes left input said now here s t n next u i h =
+    let front : SaysFront (reply_line u.0) here.said now = u.1.2 in
+    let part = take front.count (reply_line u.0) in
+    let end = at_next finished bytes said here s t n next part in
+    let others = reply_text (replies u.1.0 (terms_of (script_behind finished here.left t n (script_exists finished here.left).0 (script_exists finished here.left).1.0 next (script_exists finished here.left).1.1).0)) in
+    made Output finished bytes [] left input said now end (drop front.count (reply_line u.0) ++ others)
+    (ap reply_text (first_reply here.state t (terms_of (script_behind finished here.left t n (script_exists finished here.left).0 (script_exists finished here.left).1.0 next (script_exists finished here.left).1.1).0) u.0 u.1.0 u.1.1)
+    ∙ ap (λ l. l ++ others) (sym (take-append-drop front.count (reply_line u.0))) ∙ append_assoc part (drop front.count (reply_line u.0)) others)
+    front.grown i h refl
+ran_unserved Memory finished bytes left input said now here s t n next u i h =
+    let end = at_next finished bytes said here s t n next [] in
+    made Memory finished bytes [] left input said now end (reply_text (replies here.state (terms_of end.placed))) refl (u ∙ said_nothing here.said) i h refl
+ran_unserved (NotYet number) finished bytes left input said now here s t n next u i h =
+    let end = at_next finished bytes said here s t n next [] in
+    let none : replies here.state (terms_of end.placed) ≡ [] = no_reply here.state t _ u.1 in
+    made (NotYet number) finished bytes [] left input said now end [] (ap reply_text none) (u.2 ∙ said_nothing here.said) i h
+    (
+      refl,
+      record {
+        written = all_written finished bytes said end [] left refl none;
+        replied_to = omega (arith, u.0, s.replied, s.all, replies_count finished bytes said end [] left none);
+        next = inl (omega (arith, u.0, s.replied, s.all, commands_count finished bytes said end [] left));
+      },
+    )
+
+ran_at_text : (finished : Bool) (bytes left input : List ℕ) (said now : Option (List ℕ)) (here : Standing) → Serves finished (taken bytes said) here → Answers finished here.left (Err NotYetText)
+    → now ≡ here.said → input ≡ bytes ++ left → length bytes ≤ 2 ^ 32 → Ran (NotYet here.replied) input (Some (record { left = left; ended = finished })) said now
+ran_at_text finished bytes left input said now here s a o i h =
+    let end = no_more finished bytes said here s a.rest a.script in
+    made (NotYet here.replied) finished bytes [] left input said now end [] refl (o ∙ said_nothing here.said) i h
+    (
+      refl,
+      record {
+        written = all_written finished bytes said end [] left refl refl;
+        replied_to = omega (arith, s.replied, s.all, replies_count finished bytes said end [] left refl);
+        next = inr (omega (arith, s.replied, s.all, commands_count finished bytes said end [] left), sym a.given);
+      },
+    )
+
+pub ran_memory : (finished : Bool) (bytes left input : List ℕ) (said now : Option (List ℕ)) (here : Standing) → Serves finished (taken bytes said) here
+    → now ≡ here.said → input ≡ bytes ++ left → length bytes ≤ 2 ^ 32 → Ran Memory input (Some (record { left = left; ended = finished })) said now
+ran_memory finished bytes left input said now here s o i h =
+    let all = script_exists finished here.left in
+    made Memory finished bytes [] left input said now (record { here = here; served = s; placed = all.0; rest = all.1.0; script = all.1.1; part = [] })
+    (reply_text (replies here.state (terms_of all.0))) refl (o ∙ said_nothing here.said) i h refl
+
+pub ran_break : (status : Status) (finished : Bool) (bytes left input : List ℕ) (said now : Option (List ℕ)) → Breaks status finished (taken bytes said) now
+    → input ≡ bytes ++ left → length bytes ≤ 2 ^ 32 → Ran status input (Some (record { left = left; ended = finished })) said now
+ran_break status finished bytes left input said now b i h = by_stop status b.stops
+  where
+    by_stop : (status : Status) → Stops finished b.here now status → Ran status input (Some (record { left = left; ended = finished })) said now
+    by_stop status (at_command _ t n next u) = ran_unserved status finished bytes left input said now b.here b.served t n next u i h
+    by_stop _ (at_text a o) = ran_at_text finished bytes left input said now b.here b.served a o i h
+    by_stop _ (at_memory o) = ran_memory finished bytes left input said now b.here b.served o i h
+
+-- a run that has no memory left at its end has done no more
+pub ran_without_memory : (status : Status) (input : List ℕ) (after : Option Stream) (said now : Option (List ℕ)) → (status ≡ Memory → ⊥) → Ran status input after said now → Ran Memory input after said now
+ran_without_memory status input after said now no r = {!!}

@@ -1,0 +1,104 @@
+-- How a run goes on, step by step.
+use Rattle.std.proofs.Common.{◌≡◌, ℕ, ◌+◌, Bool, true, false, List, [], ◌∷◌, ◌++◌, length, length-append, Option, Some, None, option_map, refl, ap, ◌∙◌, sym, subst, append_assoc, append-nil, arith}
+use Rattle.std.specs.Option.{option_map_or}
+use Rattle.dets_term.specs.TermValue.{TermValue}
+use Rattle.term_text.specs.FeedState.{FeedState}
+use Rattle.term_text.specs.Next.{IsNext}
+use Rattle.term_text.specs.Script.{Placed, AreNext, behind}
+use Rattle.term_text.proofs.Scripts.{AreNext-append, behind-append, AreNext-more}
+use Rattle.run_model.specs.State.{State}
+use Rattle.run_model.specs.Step.{step, replies}
+use Rattle.dets_tool.specs.declared.status.Status.{Status}
+use Rattle.dets_tool.specs.Run.{reply_line, reply_text, terms_of}
+use Rattle.host_model.specs.Host.{Shown}
+use Rattle.dets_machine.specs.MachineValue.{MachineValue}
+use Rattle.dets_tool.specs.Serving.{Standing, standing, Serves, Replies, Breaks}
+
+-- ---- output
+
+pub said_nothing : (said : Option (List ℕ)) → said ≡ option_map (λ (output : List ℕ). output ++ []) said
+said_nothing None = refl
+said_nothing (Some output) = ap Some (sym (append-nil output))
+
+pub said_both : (said : Option (List ℕ)) (xs ys : List ℕ) → option_map (λ (output : List ℕ). output ++ ys) (option_map (λ (output : List ℕ). output ++ xs) said) ≡ option_map (λ (output : List ℕ). output ++ (xs ++ ys)) said
+said_both None xs ys = refl
+said_both (Some output) xs ys = ap Some (append_assoc output xs ys)
+
+pub reply_text-append : (xs ys : List TermValue) → reply_text (xs ++ ys) ≡ reply_text xs ++ reply_text ys
+reply_text-append [] ys = refl
+reply_text-append (x ∷ xs) ys = ap (λ l. reply_line x ++ l) (reply_text-append xs ys) ∙ sym (append_assoc (reply_line x) (reply_text xs) (reply_text ys))
+
+-- ---- commands
+
+pub terms_of-append : (xs ys : List Placed) → terms_of (xs ++ ys) ≡ terms_of xs ++ terms_of ys
+terms_of-append [] ys = refl
+terms_of-append (x ∷ xs) ys = ap (λ l. x.term ∷ l) (terms_of-append xs ys)
+
+pub terms_of-length : (xs : List Placed) → length (terms_of xs) ≡ length xs
+terms_of-length [] = refl
+terms_of-length (x ∷ xs) = let others = terms_of-length xs in omega (arith, others)
+
+pub Serves-none : (finished : Bool) (here : Standing) → Serves finished here here
+Serves-none finished here = record {
+  commands = [];
+  answers = [];
+  next = tt;
+  left = refl;
+  served = λ _. refl;
+  all = refl;
+  replied = omega arith;
+  said = said_nothing here.said;
+}
+
+-- where no text was taken
+pub Serves-same : (finished : Bool) (old new : FeedState) (machine : MachineValue) (replied : ℕ) (host : Shown) → new ≡ old → Serves finished (standing old machine replied host) (standing new machine replied host)
+Serves-same finished old new machine replied host e = rw e (Serves-none finished (standing old machine replied host))
+
+pub Serves-append : (finished : Bool) (a b c : Standing) → Serves finished a b → Serves finished b c → Serves finished a c
+Serves-append finished a b c s t = record {
+  commands = s.commands ++ t.commands;
+  answers = s.answers ++ t.answers;
+  next = AreNext-append finished a.left s.commands t.commands s.next (subst (λ (l : List ℕ). AreNext finished l t.commands) s.left t.next);
+  left = t.left ∙ ap (behind t.commands) s.left ∙ sym (behind-append a.left s.commands t.commands);
+  served =
+      λ more.
+        ap (replies a.state) (ap (λ l. l ++ more) (terms_of-append s.commands t.commands) ∙ append_assoc (terms_of s.commands) (terms_of t.commands) more)
+        ∙ s.served (terms_of t.commands ++ more) ∙ ap (λ l. s.answers ++ l) (t.served more) ∙ sym (append_assoc s.answers t.answers (replies c.state more));
+  all = omega (arith, s.all, t.all, length-append s.answers t.answers, length-append s.commands t.commands);
+  replied = omega (arith, s.replied, t.replied, length-append s.answers t.answers);
+  said =
+      t.said ∙ ap (option_map (λ (output : List ℕ). output ++ reply_text t.answers)) s.said ∙ said_both a.said (reply_text s.answers) (reply_text t.answers)
+      ∙ ap (λ l. option_map (λ (output : List ℕ). output ++ l) a.said) (sym (reply_text-append s.answers t.answers));
+}
+
+-- one command more
+pub Serves-one : (finished : Bool) (old new : Standing) (t : TermValue) (taken : ℕ) → IsNext finished old.left t taken → Replies old.state new.state t old.said new.said
+    → new.left ≡ behind (record { term = t; bytes = taken } ∷ []) old.left → new.replied ≡ old.replied + 1 → Serves finished old new
+Serves-one finished old new t taken n r left replied = record {
+  commands = record { term = t; bytes = taken } ∷ [];
+  answers = r.reply ∷ [];
+  next = (n, tt);
+  left = left;
+  served = λ more. ap (λ o. option_map_or (λ (served : TermValue × State). served.0 ∷ replies served.1 more) o []) r.step;
+  all = refl;
+  replied = replied;
+  said = r.said ∙ ap (λ l. option_map (λ (output : List ℕ). output ++ l) old.said) (sym (append-nil (reply_line r.reply)));
+}
+
+-- more bytes come behind
+pub Serves-more : (finished : Bool) (a b : Standing) (more : List ℕ) → Serves false a b → Serves finished (record a { left = a.left ++ more }) (record b { left = b.left ++ more })
+Serves-more finished a b more s =
+    let still = AreNext-more finished a.left more s.commands s.next in record {
+      commands = s.commands;
+      answers = s.answers;
+      next = still.0;
+      left = ap (λ l. l ++ more) s.left ∙ sym still.1;
+      served = s.served;
+      all = s.all;
+      replied = s.replied;
+      said = s.said;
+    }
+
+-- a run that breaks behind commands that were served
+pub Breaks-behind : (status : Status) (finished : Bool) (a b : Standing) (now : Option (List ℕ)) → Serves finished a b → Breaks status finished b now → Breaks status finished a now
+Breaks-behind status finished a b now s f = record { here = f.here; served = Serves-append finished a b f.here s f.served; stops = f.stops }
