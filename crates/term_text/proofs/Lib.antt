@@ -14,3 +14,5 @@ pub mod Backward
 pub mod Reaching
 pub mod Soundness
 pub mod FeedOrder
+pub mod Computing
+pub mod Texts

@@ -17,5 +17,6 @@ mod name;
 mod nest;
 mod printing;
 mod reader;
+pub mod rows;
 #[cfg(test)]
 mod tests;
