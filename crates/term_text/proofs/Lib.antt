@@ -16,3 +16,4 @@ pub mod Soundness
 pub mod FeedOrder
 pub mod Computing
 pub mod Texts
+pub mod Refusals

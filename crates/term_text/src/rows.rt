@@ -1,7 +1,7 @@
 //! Worked rows of the definitions, as contracts of functions that do nothing.
-ghost use Rattle.std.specs.Prelude.{◌≡◌, ◌-◌, ◌^◌, [], ◌∷◌, ◌++◌, map, negsuc, codes};
-ghost use Rattle.dets_term.specs.TermValue.{integer, atom, nil, chain};
-ghost use Rattle.dets_term.specs.Written.{word, number, tuple_of, list_of, pair};
+ghost use Rattle.std.specs.Prelude.{◌≡◌, ℕ, ◌-◌, ◌^◌, List, [], ◌∷◌, ◌++◌, map, replicate, negsuc, codes};
+ghost use Rattle.dets_term.specs.TermValue.{TermValue, integer, atom, nil, chain};
+ghost use Rattle.dets_term.specs.Written.{word, number, tuple_of, list_of, pair, boxed};
 ghost use Rattle.term_text.specs.Printed.{printed, reserved_words};
 ghost use Rattle.term_text.specs.Token.{IsSentence};
 
@@ -105,4 +105,37 @@ pub fn printed_forms_are_texts_of_their_terms()
     ensures each_sort_of_character { IsSentence (word "aZ9_@") (codes "aZ9_@.") [] }
     ensures largest { IsSentence (number (2 ^ 127 - 1)) (codes "170141183460469231731687303715884105727.") [] }
     ensures least { IsSentence (integer (negsuc (2 ^ 127 - 1))) (codes "-170141183460469231731687303715884105728.") [] }
+{}
+
+/// Whatever follows these bytes, no sentence begins with them.
+pub fn no_sentence_begins_so()
+    ensures bracket_behind_a_comma { (t : TermValue) (more rest : List ℕ) → IsSentence t (codes "[1,]" ++ more) rest → ⊥ }
+    ensures comma_behind_a_bracket { (t : TermValue) (more rest : List ℕ) → IsSentence t (codes "[," ++ more) rest → ⊥ }
+    ensures no_comma { (t : TermValue) (more rest : List ℕ) → IsSentence t (codes "[1 2" ++ more) rest → ⊥ }
+    ensures two_terms { (t : TermValue) (more rest : List ℕ) → IsSentence t (codes "a b" ++ more) rest → ⊥ }
+    ensures other_bracket { (t : TermValue) (more rest : List ℕ) → IsSentence t (codes "{1]" ++ more) rest → ⊥ }
+    ensures bracket_that_closes_nothing { (t : TermValue) (more rest : List ℕ) → IsSentence t (codes "]" ++ more) rest → ⊥ }
+    ensures full_stop_alone { (t : TermValue) (more rest : List ℕ) → IsSentence t (codes "." ++ more) rest → ⊥ }
+    ensures sign_alone { (t : TermValue) (more rest : List ℕ) → IsSentence t (codes "- " ++ more) rest → ⊥ }
+    ensures two_signs { (t : TermValue) (more rest : List ℕ) → IsSentence t (codes "--" ++ more) rest → ⊥ }
+    ensures capital { (t : TermValue) (more rest : List ℕ) → IsSentence t (codes "A" ++ more) rest → ⊥ }
+    ensures letter_behind_a_number { (t : TermValue) (more rest : List ℕ) → IsSentence t (codes "1a" ++ more) rest → ⊥ }
+{}
+
+/// Atoms go up to 255 characters and brackets up to 256 levels, and no sentence begins with what is past a limit.
+pub fn sentences_go_up_to_the_limits()
+    ensures large_integer { (t : TermValue) (more rest : List ℕ) → IsSentence t (codes "170141183460469231731687303715884105728" ++ more) rest → ⊥ }
+    ensures small_integer { (t : TermValue) (more rest : List ℕ) → IsSentence t (codes "-170141183460469231731687303715884105729" ++ more) rest → ⊥ }
+    ensures long_atom { (t : TermValue) (more rest : List ℕ) → IsSentence t (replicate 256 97 ++ more) rest → ⊥ }
+    ensures many_levels { (t : TermValue) (more rest : List ℕ) → IsSentence t (replicate 257 91 ++ more) rest → ⊥ }
+    ensures most_characters { IsSentence (atom (replicate 255 97)) (replicate 255 97 ++ codes ".") [] }
+    ensures most_levels { IsSentence (boxed 255) (replicate 255 91 ++ (codes "0" ++ (replicate 255 93 ++ codes "."))) [] }
+{}
+
+/// A text that ends before its full stop is no sentence.
+pub fn no_sentence_ends_before_its_full_stop()
+    ensures nothing { (t : TermValue) (rest : List ℕ) → IsSentence t [] rest → ⊥ }
+    ensures atom { (t : TermValue) (rest : List ℕ) → IsSentence t (codes "a") rest → ⊥ }
+    ensures sign { (t : TermValue) (rest : List ℕ) → IsSentence t (codes "-") rest → ⊥ }
+    ensures open_bracket { (t : TermValue) (rest : List ℕ) → IsSentence t (codes "[1,2") rest → ⊥ }
 {}
