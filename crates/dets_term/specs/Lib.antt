@@ -6,3 +6,4 @@ pub mod Node
 pub mod Parts
 pub mod NodeFalls
 pub mod Same
+pub mod Written

@@ -16,6 +16,7 @@ pub use text::Text;
 mod byte_list;
 mod kind;
 mod laws;
+pub mod rows;
 mod term;
 mod term_list;
 #[cfg(test)]

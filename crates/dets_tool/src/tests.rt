@@ -20,11 +20,12 @@ fn asked(alloc: Global, list: &[&str]) -> Result<String, Memory> {
 
 #[test]
 fn only_run_and_a_file_are_words_of_a_job(rt: HostRuntime) -> Result<(), Fail> {
-    let rows: [(&[&str], &str); 9] = [
+    let rows: [(&[&str], &str); 10] = [
         (&["run", "t"], "run t"),
         (&["run", "tä-b"], "run tä-b"),
         (&["run"], "!"),
         (&["frob", "t"], "!"),
+        (&["load", "t", "set", "0"], "!"),
         (&["run", "-t"], "!"),
         (&["run", ""], "!"),
         (&["run", "t", "u"], "!"),

@@ -2,4 +2,5 @@
 pub mod Command
 pub mod State
 pub mod Step
+pub mod Written
 pub use Rattle.table_model.specs.Table

@@ -2,6 +2,4 @@
 //! list of commands. It stands on `table_model`, and compares the definitions with worked rows.
 #![tactic(auto)]
 
-pub use rows::a_set_is_opened_filled_and_looked_up;
-
-mod rows;
+pub mod rows;

@@ -1,6 +1,6 @@
 -- A set after an object is inserted.
-use Rattle.std.proofs.Common.{◌≡◌, ℕ, Bool, true, false, cond, not, List, [], ◌∷◌, ◌++◌, filter, Option, Some, None, refl, ap, sym, ◌∙◌, subst}
-use Rattle.dets_term.specs.TermValue.{TermValue, key, is_same}
+use Rattle.std.proofs.Common.{◌≡◌, ℕ, Bool, true, false, cond, not, List, [], ◌∷◌, ◌++◌, filter, Option, Some, refl, ap, ◌∙◌}
+use Rattle.dets_term.specs.TermValue.{TermValue, key}
 use Rattle.std.proofs.lemmas.List.Elements.{filter-append}
 use Rattle.dets_term.specs.Same.{same_self}
 use Rattle.dets_term.specs.declared.kind.Kind.{Kind}

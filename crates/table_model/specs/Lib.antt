@@ -1,2 +1,3 @@
 -- The definitions of this crate, one file for each idea.
 pub mod Table
+pub mod Filled

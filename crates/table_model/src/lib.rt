@@ -1,7 +1,8 @@
 //! Definitions of what a table is, which the crates above cite: its kind, its objects, and what each operation
-//! makes of them. It stands on `dets_term`, and promises laws of these definitions.
+//! makes of them. It stands on `dets_term`, promises laws of these definitions, and compares them with worked rows.
 #![tactic(auto)]
 
 pub use laws::a_set_has_one_object_of_a_key;
 
 mod laws;
+pub mod rows;

@@ -8,8 +8,9 @@ use Rattle.term_text.specs.Printed.{is_plain_atom}
 use Rattle.term_text.specs.Token.{Token, opening, closing, comma, full_stop, name, number, is_white, each, Spelled, IsApart, Spells, IsSentence}
 use Rattle.term_text.specs.Machine.{NestState, may_begin, complete, take_token, Unfinished, no_token, in_name, in_minus, in_number, ReaderState, first_state, goes_on, extended, settled, first_byte, single, begun_token, begun, step, run, Place, want, opened, after, whole, stopped, Frame, close, bracketed, same_bracket, may_close, after_comma, after_stop}
 use Rattle.term_text.specs.Good.{GoodNest, GoodToken, Good, GoodPlace}
+use Rattle.term_text.proofs.Forward.{IsWithin}
 use Rattle.term_text.proofs.HasRead.{TokenBytes, read_tokens, HasRead}
-use Rattle.term_text.proofs.NestTokens.{if_some, read_tokens-take_token, GoodNest-complete, IsPart-integer, IsPart-atom, IsWithin, GoodNest-take_token}
+use Rattle.term_text.proofs.NestTokens.{if_some, read_tokens-take_token, GoodNest-complete, IsPart-integer, IsPart-atom, GoodNest-take_token}
 use Rattle.term_text.proofs.Spelling.{by_cond, Spells-more, Spells-push, each-push, GoodToken-extended, TokenBytes-extended, first_byte-begins, single-spells}
 
 -- ---- what a byte does

@@ -22,3 +22,6 @@ pub mod FeedOrder
 pub mod Existence
 pub mod PrintedText
 pub mod PrintedBytes
+pub mod Computing
+pub mod Texts
+pub mod Refusals

@@ -11,6 +11,7 @@ use Rattle.term_text.specs.declared.nest.Bracket.TheVariants.{Tuple, List as Squ
 use Rattle.term_text.specs.Token.{Token, opening, closing, comma, full_stop, name, number, tokens_of, tokens_of_elements, tokens_after, IsBuilt, fits}
 use Rattle.term_text.specs.Machine.{Place, want, opened, after, whole, stopped, Frame, NestState, bracketed, wants, may_begin, complete, same_bracket, may_close, close, after_comma, after_stop, take_token}
 use Rattle.term_text.specs.Good.{IsPart, GoodFrames, HasParts, GoodPlace, GoodNest}
+use Rattle.term_text.proofs.Forward.{IsWithin}
 use Rattle.term_text.proofs.HasRead.{parts_after, parts_tokens, comma_behind, part_comma, open_tokens, read_tokens}
 
 -- a test that lets something through held
@@ -212,15 +213,6 @@ IsPart-integer s z b f = record { built = f; shallow = omega (arith, open_bracke
 
 pub IsPart-atom : (s : NestState) (characters : List ℕ) → may_begin s ≡ true → length characters ≤ 255 → IsPart (length s.frames) (atom characters)
 IsPart-atom s characters b f = record { built = f; shallow = omega (arith, open_brackets-may_begin s b) }
-
--- a name or a number is within the limits
-abbrev pub IsWithin : Token → Type 0
-IsWithin (opening k) = Unit {0}
-IsWithin (closing k) = Unit {0}
-IsWithin comma = Unit {0}
-IsWithin full_stop = Unit {0}
-IsWithin (name characters) = length characters ≤ 255
-IsWithin (number z) = fits z ≡ true
 
 pub GoodNest-take_token : (s n : NestState) (token : Token) → GoodNest s → IsWithin token → take_token s token ≡ Some n → GoodNest n
 GoodNest-take_token s n (opening k) g w e =

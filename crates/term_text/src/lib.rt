@@ -25,5 +25,6 @@ mod nest;
 mod printed_laws;
 mod printing;
 mod reader;
+pub mod rows;
 #[cfg(test)]
 mod tests;

@@ -120,29 +120,70 @@ fn other_words_are_refused(rt: HostRuntime) -> Result<(), Fail> {
         )?;
         assert!(rt; matches!(status, Status::WordsRefused));
         assert_eq!(rt; said.as_slice(), b"".as_slice());
+        let (status, _) = outcome(
+            rt.alloc(),
+            &Run {
+                words,
+                failing_reads: &[0],
+                failing_puts: &[0],
+                ..plain_run()
+            },
+        )?;
+        assert!(rt; matches!(status, Status::WordsRefused));
     }
     Ok(())
 }
 
 #[test]
-fn a_device_that_fails_at_its_first_call_ends_the_run(rt: HostRuntime) -> Result<(), Fail> {
+fn the_replies_before_a_put_that_fails_are_said(rt: HostRuntime) -> Result<(), Fail> {
+    let rows: [(&[u64], &[u8]); 3] = [
+        (&[0], b""),
+        (&[1], b"{ok,table}.\n"),
+        (&[2], b"{ok,table}.\nok.\n"),
+    ];
+    for (failing_puts, before) in rows {
+        let (status, said) = outcome(
+            rt.alloc(),
+            &Run {
+                failing_puts,
+                ..plain_run()
+            },
+        )?;
+        assert!(rt; matches!(status, Status::Output));
+        assert_eq!(rt; said.as_slice(), before);
+    }
+    // Three replies are three puts, and nothing else is said.
     let (status, said) = outcome(
         rt.alloc(),
         &Run {
-            failing_reads: &[0],
+            failing_puts: &[3],
             ..plain_run()
         },
     )?;
-    assert!(rt; matches!(status, Status::SourceFault));
-    assert_eq!(rt; said.as_slice(), b"".as_slice());
-    let (status, said) = outcome(
-        rt.alloc(),
-        &Run {
-            failing_puts: &[0],
-            ..plain_run()
-        },
-    )?;
-    assert!(rt; matches!(status, Status::Output));
-    assert!(rt; b"{ok,table}.\n".starts_with(said.as_slice()));
+    assert!(rt; matches!(status, Status::Done));
+    assert_eq!(rt; said.as_slice(), PLAIN_REPLIES);
+    Ok(())
+}
+
+#[test]
+fn the_commands_before_a_read_that_fails_are_replied_to(rt: HostRuntime) -> Result<(), Fail> {
+    // The whole script comes in one read, and in pieces of 13 bytes the first command does.
+    let rows: [(usize, &[u64], &[u8]); 3] = [
+        (4096, &[0], b""),
+        (4096, &[1], PLAIN_REPLIES),
+        (13, &[1], b"{ok,table}.\n"),
+    ];
+    for (most, failing_reads, before) in rows {
+        let (status, said) = outcome(
+            rt.alloc(),
+            &Run {
+                most,
+                failing_reads,
+                ..plain_run()
+            },
+        )?;
+        assert!(rt; matches!(status, Status::SourceFault));
+        assert_eq!(rt; said.as_slice(), before);
+    }
     Ok(())
 }

@@ -1,0 +1,27 @@
+-- Small tables that worked rows look into.
+use Rattle.std.specs.Prelude.{ℕ, [], ◌∷◌, List, fold}
+use Rattle.dets_term.specs.TermValue.{TermValue}
+use Rattle.dets_term.specs.Written.{word, number, pair}
+use Rattle.dets_term.specs.declared.kind.Kind.{Kind}
+use Rattle.dets_term.specs.declared.kind.Kind.TheVariants.{Set, Bag, DuplicateBag}
+use Rattle.table_model.specs.Table.{Table, empty_table, insert_object}
+
+-- a table in which these objects were inserted, in order
+abbrev pub filled : Kind → ℕ → List TermValue → Table
+filled kind keypos objects = fold insert_object (empty_table kind keypos) objects
+
+-- {1,x}, {2,x} and then {1,y}
+abbrev pub numbered_set : Table
+numbered_set = filled Set 1 (pair (number 1) (word "x") ∷ pair (number 2) (word "x") ∷ pair (number 1) (word "y") ∷ [])
+
+-- {1,a}, {1,b} and then {2,a}, with the key in the second place
+abbrev pub second_place_set : Table
+second_place_set = filled Set 2 (pair (number 1) (word "a") ∷ pair (number 1) (word "b") ∷ pair (number 2) (word "a") ∷ [])
+
+-- {a,1}, {a,1} and then {a,2}
+abbrev pub small_bag : Table
+small_bag = filled Bag 1 (pair (word "a") (number 1) ∷ pair (word "a") (number 1) ∷ pair (word "a") (number 2) ∷ [])
+
+-- {a,1} and {a,1}
+abbrev pub small_duplicate_bag : Table
+small_duplicate_bag = filled DuplicateBag 1 (pair (word "a") (number 1) ∷ pair (word "a") (number 1) ∷ [])
