@@ -73,17 +73,16 @@ pub record IsDone (c : Course) : Type 0 where
   pub written : HasWrittenAll c
   pub all : HasRepliedToAll c
   pub ended : c.ended ≡ true
-  pub read : c.left ≡ []
   pub blank_rest : c.rest ≡ blank
 
 -- what each status says of the run
 abbrev pub IsEndOf : Status → Course → Type 0
 IsEndOf Done c = (c.past ≡ []) × IsDone c
-IsEndOf (Input offset why) c = (offset ≡ 2 ^ 32) × (length c.bytes ≡ 2 ^ 32) × (0 < length c.past) × GoesOn c
+IsEndOf (Input offset why) c = (offset ≡ 2 ^ 32) × (0 < length c.past) × GoesOn c
 IsEndOf WordsRefused c = ⊥
 IsEndOf SourceFault c = (c.past ≡ []) × GoesOn c
 IsEndOf Output c = c.past ≡ []
-IsEndOf Memory c = c.past ≡ []
+IsEndOf Memory c = Unit {0}
 IsEndOf (NotYet replied) c = (c.past ≡ []) × IsNotBuilt replied c
 
 -- A run over an input, up to this status: what the source tells then, and what the host tells of its output at the
@@ -93,9 +92,28 @@ pub record Ran (status : Status) (input : List ℕ) (after : Option Stream) (sai
   pub told : after ≡ Some (record { left = course.left; ended = course.ended })
   pub taken : input ≡ course.bytes ++ (course.past ++ course.left)
   pub within : length course.bytes ≤ 2 ^ 32
+  pub budget : 0 < length course.past → length course.bytes ≡ 2 ^ 32
+  pub at_end : course.ended ≡ true → course.left ≡ []
   pub placed : List Placed
   pub terms : course.commands ≡ terms_of placed
   pub script : IsScript course.ended course.bytes placed course.rest
   pub output : now ≡ option_map (λ (output : List ℕ). output ++ course.written) said
   pub front : IsFrontOf course.written (reply_text (replies_of course))
   pub end : IsEndOf status course
+
+-- the script was served to its end, or a device or the memory failed before
+abbrev pub IsServed : Status → Type 0
+IsServed Done = Unit {0}
+IsServed (Input offset why) = ⊥
+IsServed WordsRefused = ⊥
+IsServed SourceFault = Unit {0}
+IsServed Output = Unit {0}
+IsServed Memory = Unit {0}
+IsServed (NotYet replied) = ⊥
+
+-- an input whose commands are all built, with nothing else behind them
+pub record IsBuiltScript (input : List ℕ) : Type 0 where
+  pub placed : List Placed
+  pub script : IsScript true input placed blank
+  pub all : length (replies first_state (terms_of placed)) ≡ length (terms_of placed)
+  pub within : length input ≤ 2 ^ 32

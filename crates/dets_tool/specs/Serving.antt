@@ -27,6 +27,10 @@ pub record Standing : Type 0 where
 abbrev pub standing : FeedState → MachineValue → ℕ → Shown → Standing
 standing text machine replied host = record { left = text.left; state = machine.state; replied = replied; said = host.said }
 
+-- with one more piece of the input
+abbrev pub with_piece : List ℕ → Standing → Standing
+with_piece piece s = record s { left = s.left ++ piece }
+
 -- commands from the front of what was left were served
 pub record Serves (finished : Bool) (old new : Standing) : Type 0 where
   pub commands : List Placed

@@ -6,7 +6,7 @@ ghost use Rattle.term_text.specs.FeedState.{FeedState, total};
 ghost use Rattle.run_model.specs.State.{first_state};
 ghost use Rattle.dets_tool.specs.Status.{status_of_pull, status_of_run};
 ghost use Rattle.dets_tool.specs.Run.{Ran};
-ghost use Rattle.dets_tool.specs.Serving.{standing, Serves, Replies, IsUnserved, Breaks, IsWaiting};
+ghost use Rattle.dets_tool.specs.Serving.{standing, with_piece, Serves, Replies, IsUnserved, Breaks, IsWaiting};
 
 use crate::{InputFeed, InputWhy, Memory, Piece, PullFault, Status};
 use dets_machine::{Machine, Stop};
@@ -84,10 +84,29 @@ impl Script {
     {
         let mut input = InputFeed::new(self.alloc, BUDGET)?;
         while let Piece::Bytes = input.pull(source)? {
-            self.text.feed(input.piece())?;
-            self.serve_whole(host)?;
+            self.serve_piece(host, input.piece())?;
         }
         self.text.finish();
+        self.serve_whole(host)
+    }
+
+    /// Serves the commands whose text is whole with one more piece of the input.
+    fn serve_piece<H: Host>(&mut self, host: &mut H, piece: &[u8]) -> Result<(), Status>
+        requires short { total self.old.text + length piece.now < 2 ^ 63 }
+        requires counted { self.old.replied ≤ self.old.text.offset }
+        requires going { (self.old.text.finished ≡ false) × (self.old.text.refused ≡ false) × (self.old.machine.starved ≡ false) }
+        ensures ok { OnOk result (Serves false (with_piece piece.now (standing self.old.text self.old.machine self.old.replied (H.shows host.old)))
+            (standing self.new.text self.new.machine self.new.replied (H.shows host.new))) }
+        ensures waiting { OnOk result (IsWaiting false self.new.text.left) }
+        ensures going { OnOk result ((self.new.text.finished ≡ false) × (self.new.text.refused ≡ false) × (self.new.machine.starved ≡ false)) }
+        ensures breaks { IfErr result (λ status. Breaks status false
+            (with_piece piece.now (standing self.old.text self.old.machine self.old.replied (H.shows host.old))) (H.shows host.new).said) }
+        ensures output { IsErrOf result Status.Output → Rose (H.shows host.old).out_faults (H.shows host.new).out_faults }
+        ensures never_falls { (H.shows host.old).out_faults ≤ (H.shows host.new).out_faults }
+        ensures text { OnOk result (total self.new.text ≡ total self.old.text + length piece.now) }
+        ensures counted { OnOk result (self.new.replied ≤ self.new.text.offset) }
+    {
+        self.text.feed(piece)?;
         self.serve_whole(host)
     }
 

@@ -1,14 +1,23 @@
-use Rattle.std.proofs.Common.{◌≡◌, ◌≤◌, ◌+◌, ◌^◌, false}
+use Rattle.std.proofs.Common.{◌≡◌, ◌≤◌, ◌+◌, ◌^◌, false, Some}
+use Rattle.host_model.specs.Source.{Stream}
 use Rattle.term_text.specs.FeedState.{total}
 use Rattle.dets_tool.specs.declared.input_feed.FeedState.TheVariants.{Reading}
+use Rattle.dets_tool.specs.Serving.{standing, IsWaiting}
+use Rattle.dets_tool.proofs.Runs.{HasTaken}
 use Rattle.dets_tool.proofs.script.Script.serve_input.Given as goal
 
--- what was taken and what is left of the budget come to the budget
+-- what was taken was served as far as it is whole, and with what is left of the budget it comes to the budget
 abbrev pub invariant-loop-input : goal.invariant-loop-input
 invariant-loop-input g l = record {
   budget : total l.self.text + l.input.room ≤ 2 ^ 32;
-  open_text : l.self.text.finished ≡ false;
   open_input : l.input.state ≡ Reading;
+  going : (l.self.text.finished ≡ false) × (l.self.text.refused ≡ false) × (l.self.machine.starved ≡ false);
+  counted : l.self.replied ≤ l.self.text.offset;
+  waiting : IsWaiting false l.self.text.left;
+  taken : (stream : Stream) → g.S.Source.told l.fn.source ≡ Some stream → stream.ended ≡ false
+      → HasTaken stream.left l.input.room (g.S.Source.told l.source) (g.H.Host.shows l.fn.host).said (standing l.self.text l.self.machine l.self.replied (g.H.Host.shows l.host));
+  source_faults : g.S.Source.faults l.fn.source ≤ g.S.Source.faults l.source;
+  out_faults : (g.H.Host.shows l.fn.host).out_faults ≤ (g.H.Host.shows l.host).out_faults;
 }
 
 abbrev pub decreases-loop-input : goal.decreases-loop-input

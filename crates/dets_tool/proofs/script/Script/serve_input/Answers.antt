@@ -1,0 +1,91 @@
+use Rattle.std.proofs.Common.{◌≡◌, ℕ, ◌≤◌, ◌+◌, ◌^◌, Bool, true, false, List, [], length, Option, Some, Ok, Err, inl, inr, refl, ap, ◌∙◌, sym, subst, arith}
+use Rattle.std.proofs.lemmas.Result.{err_from_is_err_and}
+use Rattle.host_model.specs.Source.{Stream}
+use Rattle.term_text.specs.FeedState.{FeedState, total}
+use Rattle.term_text.specs.Script.{Answers}
+use Rattle.term_text.specs.declared.feed.Fed.TheVariants.{Again}
+use Rattle.term_text.proofs.Existence.{nothing_fed}
+use Rattle.dets_machine.specs.MachineValue.{MachineValue}
+use Rattle.dets_tool.specs.FeedValue.{FeedValue, Pulled, GivesPiece}
+use Rattle.dets_tool.specs.declared.input_feed.Piece.{Piece}
+use Rattle.dets_tool.specs.declared.status.Status.TheVariants.{SourceFault}
+use Rattle.dets_tool.specs.Serving.{Standing, standing, with_piece, Serves, Breaks}
+use Rattle.dets_tool.specs.Run.{Ran}
+use Rattle.dets_tool.proofs.Runs.{no_input, taken_none, taken_piece, piece_breaks, pull_fails, input_ends, no_source_fault}
+use Rattle.dets_tool.proofs.script.Script.serve_input.Goals as goal
+
+pub returns-in_err-input-clause-ran : goal.returns-in_err-input-clause-ran
+returns-in_err-input-clause-ran g c = λ stream told ended.
+    let p = err_from_is_err_and c.from_residual.result c.from_residual.ensures.1 in
+    rw (p.1, p.2) (no_input stream _ _ told ended)
+
+pub loop-input-init : goal.loop-input-init
+loop-input-init g c =
+    let room : c.in_ok-input.input.room ≡ 2 ^ 32 = ap (λ (f : FeedValue). f.room) c.in_ok-input.ensures in
+    record {
+      budget = omega (arith, room, ap total c.requires.text);
+      open_input = ap (λ (f : FeedValue). f.state) c.in_ok-input.ensures;
+      going = (
+        ap (λ (t : FeedState). t.finished) c.requires.text,
+        ap (λ (t : FeedState). t.refused) c.requires.text,
+        ap (λ (m : MachineValue). m.starved) c.requires.machine,
+      );
+      counted = omega (arith, c.requires.replied);
+      waiting = inl (subst (λ (t : FeedState). Answers false t.left (Ok Again)) (sym c.requires.text) nothing_fed);
+      taken = λ stream told ended. rw (c.requires.text, c.requires.machine, c.requires.replied) (taken_none stream _ _ _ told ended room);
+      source_faults = omega arith;
+      out_faults = omega arith;
+    }
+
+pub returns-in_err-pull-clause-ran : goal.returns-in_err-pull-clause-ran
+returns-in_err-pull-clause-ran g c = λ stream told ended.
+    let p = err_from_is_err_and c.from_residual-in_err-pull.result c.from_residual-in_err-pull.ensures.1 in
+    rw (p.1, p.2)
+    (pull_fails c.in_err-pull.field-0.0 stream.left _ _ _ _ _ _ (c.loop-input.invariant.taken stream told ended) c.loop-input.invariant.waiting
+    (c.in_err-pull.ensures.reads c.loop-input.invariant.open_input))
+
+pub loop-input-preserved : goal.loop-input-preserved
+loop-input-preserved g c =
+    let piece : GivesPiece c.loop-input.input c.pull.new.self (g.S.Source.told c.loop-input.source) (g.S.Source.told c.pull.new.source)
+    = subst (λ (a : Piece). Pulled (Ok a) c.loop-input.input c.pull.new.self (g.S.Source.told c.loop-input.source) (g.S.Source.told c.pull.new.source)) c.in-Bytes.is
+    (c.in_ok-pull.ensures.reads c.loop-input.invariant.open_input) in
+    record {
+      budget = omega (arith, c.loop-input.invariant.budget, piece.room, c.in_ok-serve_piece.ensures.text, ap length c.piece.ensures);
+      open_input = piece.goes_on;
+      going = c.in_ok-serve_piece.ensures.going;
+      counted = c.in_ok-serve_piece.ensures.counted;
+      waiting = c.in_ok-serve_piece.ensures.waiting;
+      taken = λ stream told ended.
+          taken_piece stream.left _ _ _ _ _ _ _ (c.loop-input.invariant.taken stream told ended) piece
+          (subst (λ (l : List ℕ). Serves false (with_piece l (standing c.loop-input.self.text c.loop-input.self.machine c.loop-input.self.replied (g.H.Host.shows c.loop-input.host)))
+          (standing c.serve_piece.new.self.text c.serve_piece.new.self.machine c.serve_piece.new.self.replied (g.H.Host.shows c.serve_piece.new.host))) c.piece.ensures c.in_ok-serve_piece.ensures.ok);
+      source_faults = omega (arith, c.loop-input.invariant.source_faults, c.pull.ensures.never_falls);
+      out_faults = omega (arith, c.loop-input.invariant.out_faults, c.serve_piece.ensures.never_falls);
+    }
+
+pub returns-in_err-serve_piece-clause-ran : goal.returns-in_err-serve_piece-clause-ran
+returns-in_err-serve_piece-clause-ran g c = λ stream told ended.
+    let p = err_from_is_err_and c.from_residual-in_err-serve_piece.result c.from_residual-in_err-serve_piece.ensures.1 in
+    let piece : GivesPiece c.loop-input.input c.pull.new.self (g.S.Source.told c.loop-input.source) (g.S.Source.told c.pull.new.source)
+    = subst (λ (a : Piece). Pulled (Ok a) c.loop-input.input c.pull.new.self (g.S.Source.told c.loop-input.source) (g.S.Source.told c.pull.new.source)) c.in-Bytes.is
+    (c.in_ok-pull.ensures.reads c.loop-input.invariant.open_input) in
+    rw (p.1, p.2)
+    (piece_breaks c.in_err-serve_piece.field-0.0 stream.left _ _ _ _ _ _ _ (c.loop-input.invariant.taken stream told ended) piece
+    (subst (λ (l : List ℕ). Breaks c.in_err-serve_piece.field-0.0 false (with_piece l (standing c.loop-input.self.text c.loop-input.self.machine c.loop-input.self.replied (g.H.Host.shows c.loop-input.host))) (g.H.Host.shows c.serve_piece.new.host).said) c.piece.ensures
+    c.in_err-serve_piece.ensures.breaks))
+
+pub returns-in_err-serve_piece-clause-source_fault : goal.returns-in_err-serve_piece-clause-source_fault
+returns-in_err-serve_piece-clause-source_fault g c = λ e.
+    let p = err_from_is_err_and c.from_residual-in_err-serve_piece.result c.from_residual-in_err-serve_piece.ensures.1 in
+    let same : p.0 ≡ SourceFault = cc in
+    absurd (no_source_fault c.in_err-serve_piece.field-0.0 _ _ _ c.in_err-serve_piece.ensures.breaks (sym p.2 ∙ same))
+
+pub returns-clause-ran : goal.returns-clause-ran
+returns-clause-ran g c = λ stream told ended.
+    input_ends c.serve_whole.result stream.left c.loop-input.input c.pull.new.self (g.S.Source.told c.loop-input.source) (g.S.Source.told c.pull.new.source) (g.H.Host.shows c.args.host.now).said
+    c.loop-input.self.text c.finish.new.self c.loop-input.self.machine c.loop-input.self.replied (g.H.Host.shows c.loop-input.host)
+    (standing c.serve_whole.new.self.text c.serve_whole.new.self.machine c.serve_whole.new.self.replied (g.H.Host.shows c.serve_whole.new.host))
+    (c.loop-input.invariant.taken stream told ended)
+    (subst (λ (a : Piece). Pulled (Ok a) c.loop-input.input c.pull.new.self (g.S.Source.told c.loop-input.source) (g.S.Source.told c.pull.new.source)) c.in_default.is
+    (c.in_ok-pull.ensures.reads c.loop-input.invariant.open_input))
+    c.finish.ensures c.serve_whole.ensures.ok c.serve_whole.ensures.waiting c.serve_whole.ensures.breaks
