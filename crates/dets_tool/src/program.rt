@@ -1,4 +1,11 @@
 //! The program over any source and host, and over the real ones.
+ghost use Rattle.std.specs.Prelude.{◌≡◌, ◌↔◌, List, ℕ, false, None, Some};
+ghost use Rattle.host_model.specs.Counts.{Rose};
+ghost use Rattle.host_model.specs.Source.{Stream};
+ghost use Rattle.dets_tool.specs.Job.{stated_job};
+ghost use Rattle.dets_tool.specs.declared.job.Job.{Job};
+ghost use Rattle.dets_tool.specs.Run.{Ran, IsBuiltScript, IsServed};
+
 use crate::{Job, Status, Words, WordsFault, job_of, script};
 use host_model::{FileHost, Host, Source, StdSource};
 use std::alloc::Global;
@@ -8,13 +15,28 @@ use std::rt::Runtime;
 use std::{env, str};
 
 /// Does what the words ask for: `run FILE` reads a script from the source and puts the reply to each command,
-/// with a full stop and a line end, in one piece.
+/// with a full stop and a line end, in one piece. `Done`: the input was read to its end, and each of its commands
+/// replied to. `NotYet`: so many commands were replied to, and the next text or command is not built. `Input`: a
+/// read gave a byte past 4,294,967,296. `SourceFault`, `Output`: a read or a put failed. `WordsRefused`: the words
+/// are not `run FILE`. Before the end of a run by `Output` or `Memory` a front of the replies is put.
 pub fn dets_main<S: Source, H: Host>(
     alloc: Global,
     words: &Words,
     source: &mut S,
     host: &mut H,
-) -> Status {
+) -> Status
+    // A run over a source that tells its input, and was not read to its end before.
+    ensures run { (job : Job) (stream : Stream) → stated_job words.now ≡ Some job → S.told source.old ≡ Some stream → stream.ended ≡ false
+        → Ran result stream.left (S.told source.new) (H.shows host.old).said (H.shows host.new).said }
+    ensures built { (job : Job) (stream : Stream) → stated_job words.now ≡ Some job → S.told source.old ≡ Some stream → stream.ended ≡ false
+        → IsBuiltScript stream.left → IsServed result }
+
+    ensures source_fault { result ≡ Status.SourceFault → Rose (S.faults source.old) (S.faults source.new) }
+    ensures output { result ≡ Status.Output → Rose (H.shows host.old).out_faults (H.shows host.new).out_faults }
+
+    ensures refused { result ≡ Status.WordsRefused ↔ (stated_job words.now ≡ None) }
+    ensures untouched { stated_job words.now ≡ None → (source.new ≡ source.old) × (host.new ≡ host.old) }
+{
     match job_of(alloc, words) {
         Ok(Job::Run(_)) => script::run(alloc, source, host),
         Err(WordsFault::Refused) => Status::WordsRefused,

@@ -1,5 +1,5 @@
 //! A script of commands, run as its input comes.
-ghost use Rattle.std.specs.Prelude.{◌≡◌, ◌≤◌, ◌<◌, ◌+◌, ◌^◌, [], ◌++◌, length, true, false, Some, OnOk, IfErr, IsErrOf, ◌⊎◌};
+ghost use Rattle.std.specs.Prelude.{◌≡◌, ◌≢◌, ◌≤◌, ◌<◌, ◌+◌, ◌^◌, [], ◌++◌, length, true, false, Some, OnOk, IfErr, IsErrOf, ◌⊎◌};
 ghost use Rattle.host_model.specs.Counts.{Rose};
 ghost use Rattle.host_model.specs.Source.{Stream};
 ghost use Rattle.term_text.specs.FeedState.{FeedState, total};
@@ -45,6 +45,7 @@ pub(crate) fn run<S: Source, H: Host>(alloc: Global, source: &mut S, host: &mut 
         → Ran result stream.left (S.told source.new) (H.shows host.old).said (H.shows host.new).said }
     ensures source_fault { result ≡ Status.SourceFault → Rose (S.faults source.old) (S.faults source.new) }
     ensures output { result ≡ Status.Output → Rose (H.shows host.old).out_faults (H.shows host.new).out_faults }
+    ensures words { result ≢ Status.WordsRefused }
 {
     let mut script = Script::new(alloc);
     let end = match script.serve_input(source, host) {
@@ -81,6 +82,7 @@ impl Script {
             → Ran (status_of_run result) stream.left (S.told source.new) (H.shows host.old).said (H.shows host.new).said }
         ensures source_fault { IsErrOf result Status.SourceFault → Rose (S.faults source.old) (S.faults source.new) }
         ensures output { IsErrOf result Status.Output → Rose (H.shows host.old).out_faults (H.shows host.new).out_faults }
+        ensures words { IsErrOf result Status.WordsRefused → ⊥ }
     {
         let mut input = InputFeed::new(self.alloc, BUDGET)?;
         while let Piece::Bytes = input.pull(source)? {

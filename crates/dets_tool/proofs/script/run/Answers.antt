@@ -1,0 +1,25 @@
+use Rattle.std.proofs.Common.{◌≡◌, List, ℕ, Option, Ok, Err, ◌⊎◌, inl, inr, ap, ◌∙◌, sym, subst}
+use Rattle.host_model.specs.Source.{Stream}
+use Rattle.dets_tool.specs.declared.status.Status.{Status}
+use Rattle.dets_tool.specs.declared.status.Status.TheVariants.{Memory}
+use Rattle.dets_tool.specs.Status.{status_of_run}
+use Rattle.dets_tool.specs.Run.{Ran}
+use Rattle.dets_tool.proofs.Runs.{ran_without_memory}
+use Rattle.dets_tool.proofs.script.run.Goals.{in-Ok, in-Err}
+use Rattle.dets_tool.proofs.script.run.Goals as goal
+
+-- the clients' exit leaves the end, or finds no memory
+at_close : (status end : Status) (input : List ℕ) (after : Option Stream) (said now : Option (List ℕ)) → (status ≡ end) ⊎ (status ≡ Memory) → Ran end input after said now → Ran status input after said now
+at_close status end input after said now (inl e) r = subst (λ (s : Status). Ran s input after said now) (sym e) r
+at_close status end input after said now (inr e) r = subst (λ (s : Status). Ran s input after said now) (sym e) (ran_without_memory end input after said now r)
+
+pub returns-clause-ran : goal.returns-clause-ran
+returns-clause-ran g c = λ stream told ended.
+    let end : status_of_run c.serve_input.result ≡ c.match-serve_input.end = elim c.match-serve_input.branch [
+      | in-Ok w ↦ ap status_of_run w.in-Ok.is ∙ sym w.end-is
+      | in-Err w ↦ ap status_of_run w.in-Err.is ∙ sym w.end-is
+    ] in
+    at_close _ _ _ _ _ _ c.close.ensures.end
+    (subst (λ h. Ran c.match-serve_input.end stream.left (g.S.Source.told c.serve_input.new.source) (g.H.Host.shows c.args.host.now).said (g.H.Host.shows h).said) (sym c.close.ensures.host)
+    (subst (λ (s : Status). Ran s stream.left (g.S.Source.told c.serve_input.new.source) (g.H.Host.shows c.args.host.now).said (g.H.Host.shows c.serve_input.new.host).said) end
+    (c.serve_input.ensures.ran stream told ended)))
