@@ -1,3 +1,5 @@
 -- Lemmas that several proofs share.
 pub mod Serving
 pub mod Runs
+pub mod InputRuns
+pub mod BuiltScripts

@@ -1,5 +1,5 @@
 -- How a run goes on, step by step.
-use Rattle.std.proofs.Common.{◌≡◌, ℕ, ◌+◌, Bool, true, false, List, [], ◌∷◌, ◌++◌, length, length-append, Option, Some, None, option_map, refl, ap, ◌∙◌, sym, subst, append_assoc, append-nil, arith}
+use Rattle.std.proofs.Common.{◌≡◌, ℕ, ◌+◌, Bool, false, List, [], ◌∷◌, ◌++◌, length, length-append, Option, Some, None, option_map, refl, ap, ◌∙◌, sym, subst, append_assoc, append-nil, arith}
 use Rattle.std.specs.Option.{option_map_or}
 use Rattle.dets_term.specs.TermValue.{TermValue}
 use Rattle.term_text.specs.FeedState.{FeedState}
@@ -7,7 +7,7 @@ use Rattle.term_text.specs.Next.{IsNext}
 use Rattle.term_text.specs.Script.{Placed, AreNext, behind}
 use Rattle.term_text.proofs.Scripts.{AreNext-append, behind-append, AreNext-more}
 use Rattle.run_model.specs.State.{State}
-use Rattle.run_model.specs.Step.{step, replies}
+use Rattle.run_model.specs.Step.{replies}
 use Rattle.dets_tool.specs.declared.status.Status.{Status}
 use Rattle.dets_tool.specs.Run.{reply_line, reply_text, terms_of}
 use Rattle.host_model.specs.Host.{Shown}
@@ -62,8 +62,8 @@ Serves-append finished a b c s t = record {
   left = t.left ∙ ap (behind t.commands) s.left ∙ sym (behind-append a.left s.commands t.commands);
   served =
       λ more.
-        ap (replies a.state) (ap (λ l. l ++ more) (terms_of-append s.commands t.commands) ∙ append_assoc (terms_of s.commands) (terms_of t.commands) more)
-        ∙ s.served (terms_of t.commands ++ more) ∙ ap (λ l. s.answers ++ l) (t.served more) ∙ sym (append_assoc s.answers t.answers (replies c.state more));
+      ap (replies a.state) (ap (λ l. l ++ more) (terms_of-append s.commands t.commands) ∙ append_assoc (terms_of s.commands) (terms_of t.commands) more)
+      ∙ s.served (terms_of t.commands ++ more) ∙ ap (λ l. s.answers ++ l) (t.served more) ∙ sym (append_assoc s.answers t.answers (replies c.state more));
   all = omega (arith, s.all, t.all, length-append s.answers t.answers, length-append s.commands t.commands);
   replied = omega (arith, s.replied, t.replied, length-append s.answers t.answers);
   said =

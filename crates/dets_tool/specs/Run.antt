@@ -1,6 +1,6 @@
 -- What a run of a script comes to: the bytes that it takes, their commands, the replies, and what is written at its
 -- end. All of it is this project's own.
-use Rattle.std.specs.Prelude.{◌≡◌, ℕ, ◌<◌, ◌≤◌, ◌^◌, Bool, true, false, List, [], ◌∷◌, ◌++◌, length, Option, Some, option_map, Ok, Err, codes, ◌⊎◌}
+use Rattle.std.specs.Prelude.{◌≡◌, ℕ, ◌<◌, ◌≤◌, ◌^◌, Bool, true, List, [], ◌∷◌, ◌++◌, length, Option, Some, option_map, Ok, Err, codes, ◌⊎◌}
 use Rattle.dets_term.specs.TermValue.{TermValue}
 use Rattle.term_text.specs.Printed.{printed}
 use Rattle.term_text.specs.Script.{Rest, blank, Placed, IsScript, answer}

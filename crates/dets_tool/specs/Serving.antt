@@ -1,5 +1,5 @@
 -- What happens while a run goes on: commands are taken from the front of some bytes and served.
-use Rattle.std.specs.Prelude.{◌≡◌, ℕ, ◌+◌, Bool, List, [], ◌++◌, length, Option, Some, None, option_map, Ok, Err, ◌⊎◌}
+use Rattle.std.specs.Prelude.{◌≡◌, ℕ, ◌+◌, Bool, List, ◌++◌, length, Option, Some, None, option_map, Ok, Err, ◌⊎◌}
 use Rattle.dets_term.specs.TermValue.{TermValue}
 use Rattle.term_text.specs.FeedState.{FeedState}
 use Rattle.term_text.specs.Next.{IsNext}

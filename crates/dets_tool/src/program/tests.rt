@@ -46,7 +46,7 @@ fn outcome(alloc: Global, run: &Run<'_>) -> Result<(Status, Vec<u8>), Memory> {
 
 #[test]
 fn a_set_is_opened_filled_and_looked_up(rt: HostRuntime) -> Result<(), Fail> {
-    for most in [1, 2, 3, 5, 7, 4096] {
+    for most in [1, 2, 3, 4, 5, 6, 7, 4096] {
         let (status, said) = outcome(
             rt.alloc(),
             &Run {

@@ -1,8 +1,6 @@
-use Rattle.std.proofs.Common.{◌≡◌, None, Some, Err, ap, ◌∙◌, sym, subst}
-use Rattle.host_model.specs.Source.{Stream}
-use Rattle.dets_tool.specs.declared.status.Status.{Status}
-use Rattle.dets_tool.specs.Run.{Ran, IsServed}
-use Rattle.dets_tool.proofs.Runs.{no_input, built_is_served}
+use Rattle.std.proofs.Common.{◌≡◌, None, Some, Err, ap, ◌∙◌, sym}
+use Rattle.dets_tool.proofs.InputRuns.{no_input}
+use Rattle.dets_tool.proofs.BuiltScripts.{built_is_served}
 use Rattle.dets_tool.proofs.program.dets_main.Goals.{in-Ok-Run, in-Err-Refused, in-Err-Memory}
 use Rattle.dets_tool.proofs.program.dets_main.Goals as goal
 

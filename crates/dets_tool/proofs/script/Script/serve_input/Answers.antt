@@ -1,6 +1,5 @@
-use Rattle.std.proofs.Common.{◌≡◌, ℕ, ◌≤◌, ◌+◌, ◌^◌, Bool, true, false, List, [], length, Option, Some, Ok, Err, inl, inr, refl, ap, ◌∙◌, sym, subst, arith}
+use Rattle.std.proofs.Common.{◌≡◌, ℕ, ◌^◌, false, List, length, Ok, inl, ap, ◌∙◌, sym, subst, arith}
 use Rattle.std.proofs.lemmas.Result.{err_from_is_err_and}
-use Rattle.host_model.specs.Source.{Stream}
 use Rattle.term_text.specs.FeedState.{FeedState, total}
 use Rattle.term_text.specs.Script.{Answers}
 use Rattle.term_text.specs.declared.feed.Fed.TheVariants.{Again}
@@ -9,9 +8,8 @@ use Rattle.dets_machine.specs.MachineValue.{MachineValue}
 use Rattle.dets_tool.specs.FeedValue.{FeedValue, Pulled, GivesPiece}
 use Rattle.dets_tool.specs.declared.input_feed.Piece.{Piece}
 use Rattle.dets_tool.specs.declared.status.Status.TheVariants.{SourceFault}
-use Rattle.dets_tool.specs.Serving.{Standing, standing, with_piece, Serves, Breaks}
-use Rattle.dets_tool.specs.Run.{Ran}
-use Rattle.dets_tool.proofs.Runs.{no_input, taken_none, taken_piece, piece_breaks, pull_fails, input_ends, no_source_fault}
+use Rattle.dets_tool.specs.Serving.{standing, with_piece, Serves, Breaks}
+use Rattle.dets_tool.proofs.InputRuns.{no_input, taken_none, taken_piece, piece_breaks, pull_fails, input_ends, no_source_fault}
 use Rattle.dets_tool.proofs.script.Script.serve_input.Goals as goal
 
 pub returns-in_err-input-clause-ran : goal.returns-in_err-input-clause-ran
@@ -78,7 +76,7 @@ pub returns-in_err-serve_piece-clause-source_fault : goal.returns-in_err-serve_p
 returns-in_err-serve_piece-clause-source_fault g c = λ e.
     let p = err_from_is_err_and c.from_residual-in_err-serve_piece.result c.from_residual-in_err-serve_piece.ensures.1 in
     let same : p.0 ≡ SourceFault = cc in
-    absurd (no_source_fault c.in_err-serve_piece.field-0.0 _ _ _ c.in_err-serve_piece.ensures.breaks (sym p.2 ∙ same))
+    absurd (no_source_fault c.in_err-serve_piece.field-0.0 false (with_piece c.piece.result.now (standing c.loop-input.self.text c.loop-input.self.machine c.loop-input.self.replied (g.H.Host.shows c.loop-input.host))) (g.H.Host.shows c.serve_piece.new.host).said c.in_err-serve_piece.ensures.breaks (sym p.2 ∙ same))
 
 pub returns-clause-ran : goal.returns-clause-ran
 returns-clause-ran g c = λ stream told ended.

@@ -3,7 +3,7 @@ use Rattle.host_model.specs.Source.{Stream}
 use Rattle.term_text.specs.FeedState.{total}
 use Rattle.dets_tool.specs.declared.input_feed.FeedState.TheVariants.{Reading}
 use Rattle.dets_tool.specs.Serving.{standing, IsWaiting}
-use Rattle.dets_tool.proofs.Runs.{HasTaken}
+use Rattle.dets_tool.proofs.InputRuns.{HasTaken}
 use Rattle.dets_tool.proofs.script.Script.serve_input.Given as goal
 
 -- what was taken was served as far as it is whole, and with what is left of the budget it comes to the budget

@@ -1,10 +1,7 @@
-use Rattle.std.proofs.Common.{◌≡◌, ℕ, Bool, true, false, List, Ok, Err, IfErr, ◌⊎◌, inl, inr, refl, ap, ◌∙◌, sym, subst}
+use Rattle.std.proofs.Common.{◌≡◌, true, false, Ok, Err, ◌⊎◌, inl, inr, refl, ap, ◌∙◌, sym}
 use Rattle.std.proofs.lemmas.Result.{err_from_is_err_and}
-use Rattle.term_text.specs.Script.{Answers, behind}
 use Rattle.term_text.specs.FeedState.{FeedState}
-use Rattle.term_text.specs.declared.feed.Fed.TheVariants.{Term as NextTerm}
-use Rattle.term_text.specs.declared.feed.TextFault.TheVariants.{NotYet as NotYetText}
-use Rattle.dets_tool.specs.Serving.{standing, Breaks, Stops, at_command, at_text, at_memory}
+use Rattle.dets_tool.specs.Serving.{at_command, at_text, at_memory}
 use Rattle.dets_tool.proofs.Serving.{Serves-none, Serves-same, Serves-one}
 use Rattle.dets_tool.proofs.script.Script.serve_next.Goals as goal
 

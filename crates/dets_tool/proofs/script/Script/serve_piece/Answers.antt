@@ -1,6 +1,6 @@
-use Rattle.std.proofs.Common.{Err, IfErr, refl, ap}
+use Rattle.std.proofs.Common.{refl}
 use Rattle.std.proofs.lemmas.Result.{err_from_is_err_and}
-use Rattle.dets_tool.specs.Serving.{Breaks, at_memory}
+use Rattle.dets_tool.specs.Serving.{at_memory}
 use Rattle.dets_tool.proofs.Serving.{Serves-none}
 use Rattle.dets_tool.proofs.script.Script.serve_piece.Goals as goal
 

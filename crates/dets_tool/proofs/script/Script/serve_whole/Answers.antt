@@ -1,4 +1,4 @@
-use Rattle.std.proofs.Common.{◌≡◌, ◌≤◌, Bool, Ok, Err, IfErr, refl, ◌∙◌, subst, arith}
+use Rattle.std.proofs.Common.{Bool, refl, ◌∙◌, subst, arith}
 use Rattle.std.proofs.lemmas.Result.{err_from_is_err_and}
 use Rattle.dets_tool.specs.Serving.{standing, Serves, Breaks}
 use Rattle.dets_tool.proofs.Serving.{Serves-none, Serves-append, Breaks-behind}
