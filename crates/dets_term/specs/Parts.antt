@@ -1,9 +1,9 @@
 -- The deepest of a list of terms, and what a chain of them is as a list.
-use Rattle.std.specs.Prelude.{◌≡◌, ℕ, zero, suc, ◌+◌, ◌*◌, ◌<◌, ◌≤◌, ◌^◌, true, cond, max, List, [], ◌∷◌, ◌++◌, length, refl, slice_get, Some}
+use Rattle.std.specs.Prelude.{◌≡◌, ℕ, zero, suc, ◌+◌, ◌*◌, ◌<◌, ◌≤◌, ◌^◌, true, false, cond, max, List, [], ◌∷◌, ◌++◌, map, length, refl, slice_get, Some}
 use Rattle.std.specs.List.{AllByRecursion}
 use Rattle.std.proofs.Common.{arith, ap, ◌∙◌}
 use denote.Param.Weighed.{most}
-use Rattle.dets_term.specs.TermValue.{TermValue, tuple, nil, chain, elements, is_list, parts_depth, depth}
+use Rattle.dets_term.specs.TermValue.{TermValue, integer, atom, tuple, mapping, nil, cons, bits, chain, map_of, elements, is_list, parts_depth, depth}
 use Rattle.dets_term.specs.IsTerm.{IsTerm, IsProper, IsBounded}
 
 -- the greatest depth in a list of terms, 0 where it is empty
@@ -23,9 +23,30 @@ pub parts_depth-chain : (ts : List TermValue) → parts_depth (chain ts nil) ≡
 parts_depth-chain [] = refl
 parts_depth-chain (t ∷ ts) = ap (λ b. max (depth t) (cond b (parts_depth (chain ts nil)) (suc (parts_depth (chain ts nil))))) (is_list-chain ts) ∙ ap (max (depth t)) (parts_depth-chain ts)
 
+-- the depth of the parts of a list that ends in a tail which is none
+pub parts_depth-improper : (ts : List TermValue) (tail : TermValue) → 0 < length ts → is_list tail ≡ false → parts_depth (chain ts tail) ≡ max (deepest ts) (depth tail)
+parts_depth-improper [] tail h e = absurd (omega arith)
+parts_depth-improper (t ∷ []) tail h e = ap (λ b. max (depth t) (cond b (parts_depth tail) (suc (parts_depth tail)))) e ∙ omega arith
+parts_depth-improper (t ∷ u ∷ ts) tail h e =
+    let rest = parts_depth-improper (u ∷ ts) tail (omega arith) e in omega arith
+
 pub elements-chain : (ts : List TermValue) → elements (chain ts nil) ≡ ts
 elements-chain [] = refl
 elements-chain (t ∷ ts) = ap (λ us. t ∷ us) (elements-chain ts)
+
+pub elements-not_list : (t : TermValue) → is_list t ≡ false → elements t ≡ []
+elements-not_list (integer z) e = refl
+elements-not_list (atom name) e = refl
+elements-not_list (tuple parts) e = refl
+elements-not_list (mapping keys values) e = refl
+elements-not_list nil e = cc
+elements-not_list (cons first rest) e = cc
+elements-not_list (bits bs) e = refl
+
+-- an improper list has the elements in front of its tail
+pub elements-improper : (ts : List TermValue) (tail : TermValue) → is_list tail ≡ false → elements (chain ts tail) ≡ ts
+elements-improper [] tail e = elements-not_list tail e
+elements-improper (t ∷ ts) tail e = ap (λ us. t ∷ us) (elements-improper ts tail e)
 
 pub IsProper-chain : (ts : List TermValue) → IsProper (chain ts nil)
 IsProper-chain [] = tt
@@ -63,3 +84,33 @@ depth-part_of_tuple ts place t e = omega (arith, deepest_bounds ts place t e, pa
 
 pub depth-part_of_list : (ts : List TermValue) (place : ℕ) (t : TermValue) → slice_get ts place ≡ Some t → depth t < depth (chain ts nil)
 depth-part_of_list ts place t e = omega (arith, deepest_bounds ts place t e, parts_depth-chain ts)
+
+-- ---- pairs of a key and a value
+
+-- the greatest depth in a list of pairs, 0 where it is empty
+abbrev pub deepest_of_pairs : List (TermValue × TermValue) → ℕ
+deepest_of_pairs [] = 0
+deepest_of_pairs (p ∷ ps) = max (max (depth p.0) (depth p.1)) (deepest_of_pairs ps)
+
+pub deepest_of_pairs-push : (ps : List (TermValue × TermValue)) (p : TermValue × TermValue) → deepest_of_pairs (ps ++ p ∷ []) ≡ max (deepest_of_pairs ps) (max (depth p.0) (depth p.1))
+deepest_of_pairs-push [] p = omega arith
+deepest_of_pairs-push (q ∷ ps) p = let rest = deepest_of_pairs-push ps p in omega arith
+
+pub deepest-of_pairs : (ps : List (TermValue × TermValue)) → max (deepest (map (λ p. p.0) ps)) (deepest (map (λ p. p.1) ps)) ≡ deepest_of_pairs ps
+deepest-of_pairs [] = refl
+deepest-of_pairs (p ∷ ps) = let rest = deepest-of_pairs ps in omega arith
+
+pub parts_depth-map_of : (ps : List (TermValue × TermValue)) → parts_depth (map_of ps) ≡ deepest_of_pairs ps
+parts_depth-map_of ps =
+    let keys = parts_depth-chain (map (λ p. p.0) ps) in
+    let values = parts_depth-chain (map (λ p. p.1) ps) in
+    let both = deepest-of_pairs ps in
+    omega arith
+
+-- each key and each value is a term
+abbrev pub ArePairs : List (TermValue × TermValue) → Type 0
+ArePairs ps = AllByRecursion (λ p. IsTerm p.0 × IsTerm p.1) ps
+
+pub ArePairs-push : (ps : List (TermValue × TermValue)) (p : TermValue × TermValue) → ArePairs ps → IsTerm p.0 → IsTerm p.1 → ArePairs (ps ++ p ∷ [])
+ArePairs-push [] p pairs k v = ((k, v), tt)
+ArePairs-push (q ∷ ps) p pairs k v = (pairs.0, ArePairs-push ps p pairs.1 k v)

@@ -1,4 +1,4 @@
-ghost use Rattle.std.specs.Prelude.{◌≡◌, List, [], ◌∷◌, ◌++◌, length, OnOk, OnErr, slice_get};
+ghost use Rattle.std.specs.Prelude.{◌≡◌, List, [], ◌∷◌, ◌++◌, length, IfOk, OnOk, OnErr, slice_get};
 
 use crate::Memory;
 use std::alloc::Global;
@@ -26,6 +26,15 @@ impl ByteList {
         ByteList {
             bytes: Vec::new(alloc),
         }
+    }
+
+    /// The same bytes once more.
+    pub(crate) fn copy(&self, alloc: Global) -> Result<ByteList, Memory>
+        ensures { IfOk result (λ made. made ≡ self.now) }
+    {
+        Ok(ByteList {
+            bytes: self.bytes.as_slice().to_vec(alloc)?,
+        })
     }
 
     /// Puts a byte last. After `Memory` the list is as it was.

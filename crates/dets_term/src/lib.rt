@@ -7,18 +7,15 @@
 
 pub use byte_list::ByteList;
 pub use kind::Kind;
-pub use laws::same_decides;
+pub use pair_list::PairList;
 pub use std::alloc::AllocError as Memory;
-pub use term::{Node, Term, TermFault, eq, key_of};
+pub use term::{Node, Term, TermFault, key_of};
 pub use term_list::TermList;
 pub use text::Text;
 
 mod byte_list;
 mod kind;
-mod laws;
-pub mod rows;
+mod pair_list;
 mod term;
 mod term_list;
-#[cfg(test)]
-mod tests;
 mod text;

@@ -1,14 +1,14 @@
-ghost use Rattle.std.specs.Prelude.{suc, ◌≡◌, ◌<◌, ◌*◌, ◌+◌, ◌↔◌, length, IsTrue, IfOk, IfErr, IsErrOf, ◌⊎◌};
+ghost use Rattle.std.specs.Prelude.{suc, ◌≡◌, ◌<◌, ◌*◌, ◌+◌, ◌↔◌, length, IfOk, IfErr, IsErrOf, ◌⊎◌};
 ghost use Rattle.std.specs.Option.{option_copied};
 ghost use Rattle.std.specs.Str.{chars};
 ghost use Rattle.dets_term.specs.TermValue.{integer, atom, tuple, nil, chain, depth, key};
 ghost use Rattle.dets_term.specs.IsTerm.{IsTerm, limited, built};
 ghost use Rattle.dets_term.specs.Parts.{deepest, AreTerms};
-ghost use Rattle.dets_term.specs.Node.{shown};
+ghost use Rattle.dets_term.specs.Node.{shown, IsSound};
 ghost use Rattle.dets_term.specs.declared.term.TermFault.TheVariants.{Memory as OutOfMemory};
 
 use crate::text::char_count;
-use crate::{Memory, TermList, Text};
+use crate::{ByteList, Memory, PairList, TermList, Text};
 use std::alloc::Global;
 use std::marker::Model;
 
@@ -19,10 +19,17 @@ pub enum Node {
     Int(i128),
     Atom(Text),
     Tuple(TermList),
+    /// The keys ascend.
+    Map(PairList),
     List(TermList),
+    /// The elements, at least one, and the tail, which is no list.
+    Improper(TermList, Box<Term>),
+    /// The bytes, and how many bits of the last one are used, from the highest: 1 to 8, and 8 where there is no
+    /// byte. Unused bits are zero.
+    Bits(ByteList, u8),
 }
 
-/// A term within its limits: at most 256 levels, fewer than 2^32 parts in each node, at most 255
+/// A term within its limits: at most 256 levels, fewer than 2^32 parts or bytes in each node, at most 255
 /// characters in an atom.
 #[cycle(term)]
 #[derive(Drop)]
@@ -36,9 +43,11 @@ pub struct Term {
 pub enum TermFault {
     /// It would have more than 256 levels.
     Depth,
+    /// Two keys of a map would be equal.
+    RepeatedKey,
     /// An atom would have more than 255 characters.
     LongAtom,
-    /// A node would have 2^32 parts or more.
+    /// A node would have 2^32 parts or bytes or more.
     ManyParts,
     Memory,
 }
@@ -67,17 +76,17 @@ impl Model for Term {
     ghost coded = { coded_term };
 
     ghost use Rattle.dets_term.specs.IsTerm.{IsTerm};
-    ghost use Rattle.dets_term.specs.Node.{shown};
+    ghost use Rattle.dets_term.specs.Node.{shown, IsSound};
 
     ghost view = { λ a. shown a.node };
 
-    ghost invariant = { λ a. (a.levels ≡ depth (shown a.node)) × IsTerm (shown a.node) };
+    ghost invariant = { λ a. (a.levels ≡ depth (shown a.node)) × IsTerm (shown a.node) × IsSound a.node };
 
     ghost size = { λ t. 2 * depth t };
 
     ghost use Rattle.dets_term.specs.NodeFalls.{deep_le-depth};
 
-    ghost size_decreases = { λ a h. deep_le-depth a.node };
+    ghost size_decreases = { λ a h. deep_le-depth a.node h.2 };
 }
 
 impl Term {
@@ -130,7 +139,8 @@ impl Term {
 
     /// What the term is made of.
     pub fn node(&self) -> &Node
-        ensures { shown result.now ≡ self.now }
+        ensures value { shown result.now ≡ self.now }
+        ensures sound { IsSound result.now }
     {
         &self.node
     }
@@ -144,7 +154,12 @@ impl Term {
             Node::Int(v) => Node::Int(*v),
             Node::Atom(name) => Node::Atom(name.copy(alloc)?),
             Node::Tuple(parts) => Node::Tuple(parts.copy(alloc)?),
+            Node::Map(pairs) => Node::Map(pairs.copy(alloc)?),
             Node::List(parts) => Node::List(parts.copy(alloc)?),
+            Node::Improper(parts, tail) => {
+                Node::Improper(parts.copy(alloc)?, Box::new(alloc, tail.copy(alloc)?)?)
+            }
+            Node::Bits(bytes, used) => Node::Bits(bytes.copy(alloc)?, *used),
         };
         Ok(Term {
             node,
@@ -176,26 +191,12 @@ fn levels_above(parts: &TermList) -> Result<u32, TermFault>
     }
 }
 
-/// Whether two terms are equal.
-#[cycle(equal)]
-pub fn eq(a: &Term, b: &Term) -> bool
-    ensures { IsTrue result ↔ (a.now ≡ b.now) }
-{
-    match (&a.node, &b.node) {
-        (Node::Int(v), Node::Int(w)) => v == w,
-        (Node::Atom(name), Node::Atom(other)) => name.equals(other),
-        (Node::Tuple(parts), Node::Tuple(others)) => parts.equals(others),
-        (Node::List(parts), Node::List(others)) => parts.equals(others),
-        _ => false,
-    }
-}
-
 /// The key of an object: its element at `keypos`. `None` where the term is no tuple of at least `keypos`
 /// elements or `keypos` is 0.
 pub fn key_of(object: &Term, keypos: u32) -> Option<&Term>
     ensures { option_copied result ≡ key object.now keypos }
 {
-    match &object.node {
+    match object.node() {
         Node::Tuple(parts) if keypos > 0 => parts.get(keypos as usize - 1),
         _ => None,
     }

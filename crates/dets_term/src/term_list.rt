@@ -1,9 +1,9 @@
-ghost use Rattle.std.specs.Prelude.{◌≡◌, ◌↔◌, List, [], ◌∷◌, ◌++◌, length, IsTrue, OnOk, OnErr, IfOk, slice_get};
+ghost use Rattle.std.specs.Prelude.{◌≡◌, List, [], ◌∷◌, ◌++◌, length, OnOk, OnErr, IfOk, slice_get};
 ghost use Rattle.std.specs.Option.{option_copied};
 ghost use Rattle.dets_term.specs.Parts.{deepest, AreTerms};
 
 use crate::Memory;
-use crate::term::{Term, eq};
+use crate::term::Term;
 use std::alloc::Global;
 use std::marker::Model;
 
@@ -93,21 +93,5 @@ impl TermList {
             made.push(item.copy(alloc)?)?;
         }
         Ok(made)
-    }
-
-    /// Whether two lists have equal terms.
-    #[cycle(equal)]
-    pub(crate) fn equals(&self, other: &TermList) -> bool
-        ensures { IsTrue result ↔ (self.now ≡ other.now) }
-    {
-        if self.items.len() != other.items.len() {
-            return false;
-        }
-        for place in 0..self.items.len() {
-            if !eq(&self.items[place], &other.items[place]) {
-                return false;
-            }
-        }
-        true
     }
 }
