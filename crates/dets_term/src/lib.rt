@@ -16,6 +16,7 @@ pub use term_list::TermList;
 pub use text::Text;
 
 mod byte_list;
+mod comparing;
 mod kind;
 mod laws;
 mod order;
