@@ -17,6 +17,7 @@ pub use text::Text;
 mod byte_list;
 mod hash;
 mod kind;
+mod laws;
 mod pair_list;
 mod term;
 mod term_list;
