@@ -16,7 +16,7 @@ use std::marker::Model;
 #[cycle(term)]
 #[derive(Drop)]
 pub struct PairList {
-    items: Vec<(Term, Term)>,
+    pub(crate) items: Vec<(Term, Term)>,
     // the greatest depth among the keys and values, 0 where there is none
     levels: u32,
 }
@@ -101,7 +101,9 @@ impl PairList {
     pub(crate) fn keys_ascend(&self) -> bool
         ensures { IsTrue result ↔ AreAscending (keys self.now) }
     {
-        self.items.as_slice().is_sorted_by(|p, q| cmp(&p.0, &q.0).is_lt())
+        self.items
+            .as_slice()
+            .is_sorted_by(|p, q| cmp(&p.0, &q.0).is_lt())
     }
 
     /// The same pairs once more.

@@ -1,3 +1,5 @@
+ghost use Rattle.std.specs.Prelude.{◌≤◌};
+
 use crate::{
     ByteList, Memory, Node, PairList, Term, TermFault, TermList, Text, eq, hash_bytes, key_of,
 };
@@ -124,7 +126,11 @@ fn pairs_in_any_order_make_a_map(rt: HostRuntime) -> Result<(), Fail> {
     assert_eq!(rt; pairs.len(), 5000);
     for number in 0..5000u16 {
         let key = Term::int(i128::from(number));
-        assert!(rt; pairs.get(usize::from(number)).is_some_and(|pair| eq(&pair.0, &key)));
+        assert!(rt;
+            pairs
+                .get(usize::from(number))
+                .is_some_and(|pair| eq(&pair.0, &key))
+        );
     }
     assert!(rt; eq(&map, &map.copy(rt.alloc())?));
     Ok(())

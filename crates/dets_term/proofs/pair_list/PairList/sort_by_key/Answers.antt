@@ -3,7 +3,7 @@ use Rattle.std.proofs.lemmas.List.Sorted.{ranks_by, answers_always}
 use Rattle.dets_term.specs.TermValue.{TermValue}
 use Rattle.dets_term.specs.Order.{order}
 use Rattle.dets_term.proofs.PairParts.{ArePairs-permutation, deepest_of_pairs-permutation}
-use Rattle.dets_term.proofs.TotalStub.{order_total}
+use Rattle.dets_term.specs.OrderCode.{order_total}
 use Rattle.dets_term.proofs.pair_list.PairList.sort_by_key.Goals as goal
 
 pub invariant_of-self : goal.invariant_of-self
