@@ -156,7 +156,8 @@ impl Term {
     }
 
     /// A list of these parts that ends in `tail`. Parts in front of a tail that is a list make one list of both, and
-    /// no parts make the tail itself. `ManyParts` from 2^32 elements on, then `Depth` above 256 levels.
+    /// no parts make the tail itself. `ManyParts` from 2^32 elements on, then `Depth` above 256 levels; `Memory`
+    /// may come before both.
     pub fn list_with_tail(alloc: Global, mut parts: TermList, tail: Term) -> Result<Term, TermFault>
         ensures { (result ≡ Err OutOfMemory) ⊎ (result ≡ built (length (elements (chain parts tail))) (chain parts tail)) }
     {
