@@ -1,7 +1,11 @@
 pub mod Counts
 pub mod Source
 pub mod MemSource
+pub mod Disk
+pub mod Torn
 pub mod Host
+pub mod Calls
+pub mod Log
 pub mod MemHost
-pub mod FileHost
+pub mod CallLaws
 pub mod StdSource
