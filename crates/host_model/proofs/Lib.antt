@@ -1,2 +1,4 @@
+pub mod Writes
+pub mod Filling
 pub mod Goes
 pub mod Kept

@@ -8,4 +8,6 @@ pub mod Calls
 pub mod Log
 pub mod MemHost
 pub mod CallLaws
+pub mod Untold
+pub mod FileHost
 pub mod StdSource

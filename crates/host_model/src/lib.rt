@@ -7,17 +7,23 @@
 #![tactic(auto)]
 
 mod counts;
+mod file_host;
 mod log;
 mod mem_host;
 mod mem_source;
 mod overwrite;
 mod reading;
+mod real_file;
 mod std_source;
 mod writing;
 
+pub use file_host::FileHost;
 pub use mem_host::MemHost;
 pub use mem_source::MemSource;
 pub use reading::{Source, SourceFailed};
 pub use std::alloc::AllocError as Memory;
 pub use std_source::StdSource;
 pub use writing::{DiskFailed, Host, OutFailed};
+
+#[cfg(test)]
+mod tests;
