@@ -6,8 +6,13 @@ pub mod Torn
 pub mod Host
 pub mod Calls
 pub mod Log
+pub mod Restart
 pub mod MemHost
 pub mod CallLaws
+pub mod RestartLaws
 pub mod Untold
 pub mod FileHost
+pub mod FuseHost
+pub mod PerfectHost
+pub mod Leaves
 pub mod StdSource

@@ -1,6 +1,7 @@
 -- The calls that a host in memory keeps, as its code holds them and as contracts see them. All of it is this project's own.
-use Rattle.std.specs.Prelude.{◌≡◌, ℕ, Bool, true, List, [], ◌∷◌, map, reverse}
+use Rattle.std.specs.Prelude.{◌≡◌, ℕ, Bool, true, List, [], ◌∷◌, map, reverse, length}
 use Rattle.host_model.specs.Host.{Left}
+use Rattle.host_model.specs.Disk.{Range, range}
 use Rattle.host_model.specs.Calls.{Call, file_after, said_after, is_possible}
 use Rattle.host_model.specs.Calls.Call.{Wrote, Synced, Put}
 use Rattle.host_model.specs.declared.log.Kept.{Kept}
@@ -28,3 +29,10 @@ pub record IsKept (first first_said : List ℕ) (calls : List Kept) (file said :
   pub reads : file ≡ file_after first (newest_first calls)
   pub output : said ≡ said_after first_said (newest_first calls)
   pub possible : is_possible first (newest_first calls) ≡ true
+
+-- the ranges that these calls wrote
+abbrev pub written : List Call → List Range
+written [] = []
+written (Wrote at bytes ∷ calls) = range at (length bytes) ∷ written calls
+written (Synced ∷ calls) = written calls
+written (Put piece ∷ calls) = written calls

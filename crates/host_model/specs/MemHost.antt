@@ -39,6 +39,9 @@ file_of h = file_after h.begun.image h.calls
 abbrev pub said_of : MemHostState → List ℕ
 said_of h = said_after h.begun.output h.calls
 
+abbrev pub pair_of : MemHostState → Left
+pair_of h = record { image = file_of h; output = said_of h }
+
 abbrev pub shown_of : MemHostState → Shown
 shown_of h = record {
   file = Some (file_of h);

@@ -1,12 +1,14 @@
 // The calls that a host in memory keeps, and the file and the output that they make.
-ghost use Rattle.std.specs.Prelude.{◌≡◌, ◌≤◌, [], length, OnOk, OnErr, IfOk};
+ghost use Rattle.std.specs.Prelude.{◌≡◌, ◌≤◌, [], length, OnOk, OnErr, IfOk, IsTrue};
 ghost use Rattle.host_model.specs.Host.{Left};
-ghost use Rattle.host_model.specs.Calls.{file_after, said_after};
+ghost use Rattle.host_model.specs.Calls.{file_after, said_after, is_possible};
 ghost use Rattle.host_model.specs.Calls.Call.{Wrote, Synced, Put};
 ghost use Rattle.host_model.specs.Log.{LogState, with_call};
+ghost use Rattle.host_model.specs.Restart.{moment, pair_at};
 
 use crate::Memory;
 use crate::overwrite::overwrite;
+use crate::restart::{Pick, image_after, output_after};
 use std::alloc::Global;
 use std::marker::Model;
 
@@ -110,5 +112,19 @@ impl Log {
         self.said.extend_from_slice(bytes)?;
         self.calls.push(Kept::Piece { bytes: bytes_kept })?;
         Ok(())
+    }
+
+    // What a restart goes on with after a stop within the call that follows the first `at`, or after all of them.
+    pub(crate) fn restart(&self, alloc: Global, at: usize, pick: Pick) -> Result<Log, Memory>
+        requires { at ≤ length self.now.calls }
+        ensures ok { IfOk result (λ l. l ≡ record {
+          begun = pair_at pick self.now.begun (moment at self.now.calls);
+          calls = [];
+        }) }
+        ensures possible { IsTrue (is_possible self.now.begun.image self.now.calls) }
+    {
+        let image = image_after(alloc, &self.first, &self.calls, at, pick)?;
+        let said = output_after(alloc, &self.first_said, &self.calls, at, pick)?;
+        Log::new(alloc, &image, &said)
     }
 }

@@ -1,14 +1,16 @@
 // A host in memory.
 ghost use Rattle.std.specs.Prelude.{◌≡◌, ◌↔◌, ◌≤◌, ◌+◌, [], length, slice_range, IsErr, IsTrue, IfOk, OnOk, OnErr};
 ghost use Rattle.host_model.specs.Counts.{is_listed};
-ghost use Rattle.host_model.specs.Host.{Goes, Tears, Stays, Says};
+ghost use Rattle.host_model.specs.Host.{Settled, Goes, Tears, Stays, Says};
 ghost use Rattle.host_model.specs.Calls.Call.{Wrote, Synced, Put};
 ghost use Rattle.host_model.specs.CallLaws.{is_coherent};
-ghost use Rattle.host_model.specs.MemHost.{MemHostState, fresh_host, file_of, said_of, shown_of, host_after_len, host_after_read, host_after, host_after_disk_fault, host_after_out_fault};
+ghost use Rattle.host_model.specs.MemHost.{MemHostState, fresh_host, file_of, said_of, shown_of, host_after_len, host_after_read, host_after, host_after_disk_fault, host_after_out_fault, pair_of};
+ghost use Rattle.host_model.specs.Restart.{moment, pair_at};
+ghost use Rattle.host_model.specs.RestartLaws.{LeftAt};
 
 use crate::counts::{must_fail, next_number, with_fault};
 use crate::log::Log;
-use crate::{DiskFailed, Host, Memory, OutFailed};
+use crate::{DiskFailed, Host, Memory, OutFailed, Pick};
 use std::alloc::Global;
 use std::marker::Model;
 
@@ -78,6 +80,29 @@ impl MemHost {
         ensures { result ≡ length self.now.calls }
     {
         self.log.count() as u64
+    }
+
+    /// What a program finds after a stop: a settled host over one image of that moment, with the output of the same
+    /// pair. The stop is in the call that moved the clock next after the first `at` of them, or after all of them
+    /// where `at` is `moments()`. `pick` names the image. No call of the new host is made to fail.
+    pub fn restart(&self, alloc: Global, at: u64, pick: Pick) -> Result<MemHost, Memory>
+        requires { at ≤ length self.now.calls }
+        ensures picked { IfOk result
+            (λ h. h ≡ fresh_host (pair_at pick self.now.begun (moment at self.now.calls)) []) }
+        ensures of_that_moment { IfOk result (λ h. LeftAt at self.now (pair_of h)) }
+        ensures since { IfOk result (λ h. (shown_of self.now).left_since at (pair_of h)) }
+        ensures settled { IfOk result (λ h. Settled (shown_of h)) }
+        ensures tells { IfOk result (λ h. IsTrue (shown_of h).tells_stops) }
+    {
+        Ok(MemHost {
+            log: self.log.restart(alloc, at as usize, pick)?,
+            reads: 0,
+            disk_faults: 0,
+            out_faults: 0,
+            fail: Vec::new(alloc),
+            next_call: Some(0),
+            starved: false,
+        })
     }
 
     /// Whether a call failed for want of memory, which no listed call does.
