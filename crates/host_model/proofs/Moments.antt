@@ -71,9 +71,9 @@ stop_within kept at end since d l last within =
 pub stop_at : (kept : List Kept) (at end since : ℕ) → at ≤ length kept → end ≡ min (at + 1) (length kept) → since ≤ at → (m : Moment) × IsStop kept at end since m
 stop_at kept at end since l last within =
     ⊎_elim
-        (λ below. (record { made = newest_first (take at kept); running = Some (call_of (get_or kept at Sync)) }, stop_within kept at end since Sync below (omega arith) within))
-        (λ above. (record { made = newest_first kept; running = None }, stop_all kept at end since (omega arith) (omega arith)))
-        (cases_lt at (length kept))
+    (λ below. (record { made = newest_first (take at kept); running = Some (call_of (get_or kept at Sync)) }, stop_within kept at end since Sync below (omega arith) within))
+    (λ above. (record { made = newest_first kept; running = None }, stop_all kept at end since (omega arith) (omega arith)))
+    (cases_lt at (length kept))
 
 -- what was picked since the last sync is the image of the moment
 pub image_is : (pick : Pick) (first synced : List ℕ) (kept : List Kept) (at end since : ℕ) → at ≤ length kept → end ≡ min (at + 1) (length kept) → since ≤ at
@@ -89,10 +89,10 @@ image_is pick first synced kept at end since l last within doubt last_sync is =
     let base : synced ≡ synced_after first m.made = is ∙ ap (λ ks. file_after first (newest_first ks)) (sym (take-take since at kept within)) ∙ sym last_sync ∙ ap (synced_after first) (sym s.made) in
     let front : take since (take end kept) ≡ take since kept = take-take since end kept (omega arith) in
     let file : file_after synced (newest_first (take (end - since) (drop since kept))) ≡ file_after first (onto m.running m.made) =
-          ap (λ f. file_after f (newest_first (take (end - since) (drop since kept)))) (is ∙ ap (λ ks. file_after first (newest_first ks)) (sym front))
-          ∙ ap (λ ks. file_after (file_after first (newest_first (take since (take end kept)))) (newest_first ks)) (sym part)
-          ∙ sym (file_after-append first (newest_first (drop since (take end kept))) (newest_first (take since (take end kept))))
-          ∙ ap (file_after first) (sym (newest_first-parts since (take end kept))) ∙ ap (file_after first) (sym s.whole) in
+    ap (λ f. file_after f (newest_first (take (end - since) (drop since kept)))) (is ∙ ap (λ ks. file_after first (newest_first ks)) (sym front))
+    ∙ ap (λ ks. file_after (file_after first (newest_first (take since (take end kept)))) (newest_first ks)) (sym part)
+    ∙ sym (file_after-append first (newest_first (drop since (take end kept))) (newest_first (take since (take end kept))))
+    ∙ ap (file_after first) (sym (newest_first-parts since (take end kept))) ∙ ap (file_after first) (sym s.whole) in
     ap (λ rs. picked_image pick rs synced (file_after synced (newest_first (take (end - since) (drop since kept))))) ranges
     ∙ ap (λ b. picked_image pick (ranges_of m.running ++ unsynced m.made) b (file_after synced (newest_first (take (end - since) (drop since kept))))) base
     ∙ ap (λ f. picked_image pick (ranges_of m.running ++ unsynced m.made) (synced_after first m.made) f) file

@@ -29,16 +29,15 @@ IsPatched-write at n rs synced picked image starts fits p =
       len = omega (arith, len, wide, p.len);
       each = λ k l. ⊎_elim
           (λ yes. let inside = is_in-parts (range at n) k yes in
-            get_or-written_in at bytes image k starts inside.0 (omega (arith, inside.1, wide))
-            ∙ get_or-take (at + n - at) (drop at picked) (k - at) 0 (omega (arith, inside.0, inside.1)) ∙ get_or-drop at picked (k - at) 0
-            ∙ ap (λ j. get_or picked j 0) (omega (arith, inside.0))
-            ∙ sym (cond-true (is_in (range at n) k || in_doubt rs k) (get_or picked k 0) (get_or synced k 0) (or_left _ _ yes)))
+          get_or-written_in at bytes image k starts inside.0 (omega (arith, inside.1, wide))
+          ∙ get_or-take (at + n - at) (drop at picked) (k - at) 0 (omega (arith, inside.0, inside.1)) ∙ get_or-drop at picked (k - at) 0
+          ∙ ap (λ j. get_or picked j 0) (omega (arith, inside.0))
+          ∙ sym (cond-true (is_in (range at n) k || in_doubt rs k) (get_or picked k 0) (get_or synced k 0) (or_left _ _ yes)))
           (λ out. let here : (get_or (written_at at bytes image) k 0 ≡ get_or image k 0) × (k < length image) = ⊎_elim
-                (λ below. (get_or-written_below at bytes image k starts below, omega arith))
-                (λ above. (get_or-written_above at bytes image k starts (omega (arith, above, wide)), omega (arith, len, wide, above)))
-                (is_in-false (range at n) k out) in
-
-            here.0 ∙ p.each k here.1 ∙ sym (ap (λ b. cond (b || in_doubt rs k) (get_or picked k 0) (get_or synced k 0)) out))
+          (λ below. (get_or-written_below at bytes image k starts below, omega arith))
+          (λ above. (get_or-written_above at bytes image k starts (omega (arith, above, wide)), omega (arith, len, wide, above)))
+          (is_in-false (range at n) k out) in
+          here.0 ∙ p.each k here.1 ∙ sym (ap (λ b. cond (b || in_doubt rs k) (get_or picked k 0) (get_or synced k 0)) out))
           (cases_Bool (is_in (range at n) k));
     }
 
@@ -69,8 +68,8 @@ picked_is pick rs synced file picked image greatest long is p =
     let byte : ℕ → ℕ = λ k. byte_picked pick k (get_or synced k 0) (get_or file k 0) in
     let at : ℕ → ℕ = λ k. cond (in_doubt rs k) (byte k) (get_or synced k 0) in
     ext_get_or 0 image (picked_image pick rs synced file) (p.len ∙ sym greatest ∙ sym (length-map-range_with_len at 0 n)) (λ k l.
-      p.each k l ∙ ap (λ x. cond (in_doubt rs k) x (get_or synced k 0)) (ap (λ xs. get_or xs k 0) is ∙ get_or-map-range_with_len byte 0 (length file) k k 0 (omega (arith, p.len, long)) (omega arith))
-      ∙ sym (get_or-map-range_with_len at 0 n k k 0 (omega (arith, p.len, greatest)) (omega arith)))
+    p.each k l ∙ ap (λ x. cond (in_doubt rs k) x (get_or synced k 0)) (ap (λ xs. get_or xs k 0) is ∙ get_or-map-range_with_len byte 0 (length file) k k 0 (omega (arith, p.len, long)) (omega arith))
+    ∙ sym (get_or-map-range_with_len at 0 n k k 0 (omega (arith, p.len, greatest)) (omega arith)))
 
 cond_same : (b : Bool) (x : ℕ) → cond b x x ≡ x
 cond_same true x = refl
@@ -81,7 +80,7 @@ pub picked_old : (rs : List Range) (synced file : List ℕ) → synced ≡ picke
 picked_old rs synced file =
     let at : ℕ → ℕ = λ k. cond (in_doubt rs k) (get_or synced k 0) (get_or synced k 0) in
     ext_get_or 0 synced (picked_image Old rs synced file) (sym (length-map-range_with_len at 0 (length synced))) (λ k l.
-      sym (cond_same (in_doubt rs k) (get_or synced k 0)) ∙ sym (get_or-map-range_with_len at 0 (length synced) k k 0 l (omega arith)))
+    sym (cond_same (in_doubt rs k) (get_or synced k 0)) ∙ sym (get_or-map-range_with_len at 0 (length synced) k k 0 l (omega arith)))
 
 -- a write among these calls begins within the image of those before it
 pub write_starts : (synced picked image : List ℕ) (kept : List Kept) (i : ℕ) (d : Kept) (at : ℕ) (bytes : List ℕ) → i < length kept → call_of (get_or kept i d) ≡ Wrote at bytes → is_possible synced (newest_first kept) ≡ true
@@ -105,7 +104,7 @@ pub patched_write : (synced picked image now : List ℕ) (kept : List Kept) (i :
 patched_write synced picked image now kept i d at bytes l e starts fits so_far is =
     let upto = newest_first-more kept i d l ∙ ap (λ c. c ∷ newest_first (take i kept)) e in
     subst (λ cs. IsPatched (written cs) synced picked now) (sym upto)
-        (subst (λ f. IsPatched (range at (length bytes) ∷ written (newest_first (take i kept))) synced picked f) (sym is) (IsPatched-write at (length bytes) _ synced picked image starts fits so_far))
+    (subst (λ f. IsPatched (range at (length bytes) ∷ written (newest_first (take i kept))) synced picked f) (sym is) (IsPatched-write at (length bytes) _ synced picked image starts fits so_far))
 
 pub patched_other : (synced picked image : List ℕ) (kept : List Kept) (i : ℕ) (d : Kept) → i < length kept → written (call_of (get_or kept i d) ∷ []) ≡ [] → IsPatched (written (newest_first (take i kept))) synced picked image
     → IsPatched (written (newest_first (take (i + 1) kept))) synced picked image

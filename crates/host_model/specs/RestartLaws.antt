@@ -20,23 +20,6 @@ use Rattle.host_model.specs.declared.restart.Pick.TheVariants.{Old, New, Fill, M
 abbrev pub LeftAt : ℕ → MemHostState → Left → Type 0
 LeftAt n h c = let m = moment n h.calls in LeftAfter h.begun m.made m.running c
 
--- in a clause a `u8` is any number; here it is a byte
-abbrev pub FillsBytes : Pick → Type 0
-FillsBytes Old = Unit {0}
-FillsBytes New = Unit {0}
-FillsBytes (Fill byte) = byte < 256
-FillsBytes (Mix number) = Unit {0}
-
-cond_below : (b : Bool) (x y : ℕ) → x < 256 → y < 256 → cond b x y < 256
-cond_below true x y p q = p
-cond_below false x y p q = q
-
-byte_picked-below : (pick : Pick) (k old new : ℕ) → FillsBytes pick → old < 256 → new < 256 → byte_picked pick k old new < 256
-byte_picked-below Old k old new p o n = o
-byte_picked-below New k old new p o n = n
-byte_picked-below (Fill byte) k old new p o n = p
-byte_picked-below (Mix number) k old new p o n = cond_below (((number / 2 ^ (k % 64)) % 2) == 1) new old n o
-
 length_picked-bounds : (pick : Pick) (least greatest : ℕ) → least ≤ greatest → (least ≤ length_picked pick least greatest) × (length_picked pick least greatest ≤ greatest)
 length_picked-bounds Old least greatest l = (omega arith, l)
 length_picked-bounds New least greatest l = (l, omega arith)
@@ -44,9 +27,9 @@ length_picked-bounds (Fill byte) least greatest l = (l, omega arith)
 length_picked-bounds (Mix number) least greatest l = (l, omega arith)
 
 -- a picked image is one that a stop may leave
-pub picked_image-left : (pick : Pick) (rs : List Range) (synced file : List ℕ) → FillsBytes pick → are_bytes synced ≡ true → are_bytes file ≡ true
+pub picked_image-left : (pick : Pick) (rs : List Range) (synced file : List ℕ) → are_bytes (picked_image pick rs synced file) ≡ true
     → ((k : ℕ) → k < furthest (length synced) rs → in_doubt rs k ≡ false → k < length synced) → IsImage rs synced (picked_image pick rs synced file)
-picked_image-left pick rs synced file p bs bf gapless =
+picked_image-left pick rs synced file p gapless =
     let n : ℕ = length_picked pick (length synced) (furthest (length synced) rs) in
     let bounds = length_picked-bounds pick (length synced) (furthest (length synced) rs) (furthest-ge (length synced) rs) in
     let at : ℕ → ℕ = λ k. cond (in_doubt rs k) (byte_picked pick k (get_or synced k 0) (get_or file k 0)) (get_or synced k 0) in
@@ -62,8 +45,7 @@ picked_image-left pick rs synced file p bs bf gapless =
         no_shorter = omega (arith, len, bounds.0);
         no_longer = omega (arith, len, bounds.1);
       };
-      bytes = are_bytes-from image (λ k l. let b : k < n = omega (arith, len) in
-        subst (λ x. x < 256) (sym (here k b)) (cond_below (in_doubt rs k) _ _ (byte_picked-below pick k _ _ p (are_bytes-at synced k bs) (are_bytes-at file k bf)) (are_bytes-at synced k bs)));
+      bytes = p;
     }
 
 -- the moment by the place of the stop
@@ -88,9 +70,9 @@ moment-possible file n [] p = p
 moment-possible file n (call ∷ calls) p = ⊎_elim
     (λ same. let m = moment-at n call calls same in subst (λ m. is_possible file (onto m.running m.made) ≡ true) (sym m) p)
     (λ apart. ⊎_elim
-      (λ before. subst (λ m. is_possible file (onto m.running m.made) ≡ true) (sym (moment-before n call calls before)) (moment-possible file n calls (possible_tail file call calls p)))
-      (λ after. subst (λ m. is_possible file (onto m.running m.made) ≡ true) (sym (moment-past n call calls after)) p)
-      apart)
+    (λ before. subst (λ m. is_possible file (onto m.running m.made) ≡ true) (sym (moment-before n call calls before)) (moment-possible file n calls (possible_tail file call calls p)))
+    (λ after. subst (λ m. is_possible file (onto m.running m.made) ≡ true) (sym (moment-past n call calls after)) p)
+    apart)
     (cases_order n (length calls))
 
 -- the output that is picked, where the call in progress says no piece
@@ -106,30 +88,30 @@ output_put New first made piece = grown_whole piece (said_after first made)
 output_put (Fill byte) first made piece = grown_whole piece (said_after first made)
 output_put (Mix number) first made piece = grown_whole piece (said_after first made)
 
-running_left : (pick : Pick) (begun : Left) (made : List Call) (running : Option Call) → FillsBytes pick → is_possible begun.image (onto running made) ≡ true → LeftAfter begun made running (pair_at pick begun (record { made = made; running = running }))
+running_left : (pick : Pick) (begun : Left) (made : List Call) (running : Option Call) → are_bytes (image_at pick begun.image (record { made = made; running = running })) ≡ true → is_possible begun.image (onto running made) ≡ true → LeftAfter begun made running (pair_at pick begun (record { made = made; running = running }))
 running_left pick begun made None p possible = record {
   possible = possible;
-  image = picked_image-left pick _ _ _ p (synced_bytes begun.image made possible) (file_bytes begun.image made possible) (no_gap begun.image made possible);
+  image = picked_image-left pick _ _ _ p (no_gap begun.image made possible);
   output = output_still pick begun.output made None refl;
 }
 running_left pick begun made (Some (Wrote at bytes)) p possible = record {
   possible = (possible_parts begun.image made at bytes possible).0;
-  image = picked_image-left pick _ _ _ p (synced_bytes begun.image (Wrote at bytes ∷ made) possible) (file_bytes begun.image (Wrote at bytes ∷ made) possible) (no_gap begun.image (Wrote at bytes ∷ made) possible);
+  image = picked_image-left pick _ _ _ p (no_gap begun.image (Wrote at bytes ∷ made) possible);
   output = output_still pick begun.output made (Some (Wrote at bytes)) refl;
 }
 running_left pick begun made (Some Synced) p possible = record {
   possible = possible;
-  image = picked_image-left pick _ _ _ p (synced_bytes begun.image made possible) (file_bytes begun.image made possible) (no_gap begun.image made possible);
+  image = picked_image-left pick _ _ _ p (no_gap begun.image made possible);
   output = output_still pick begun.output made (Some Synced) refl;
 }
 running_left pick begun made (Some (Put piece)) p possible = record {
   possible = possible;
-  image = picked_image-left pick _ _ _ p (synced_bytes begun.image made possible) (file_bytes begun.image made possible) (no_gap begun.image made possible);
+  image = picked_image-left pick _ _ _ p (no_gap begun.image made possible);
   output = output_put pick begun.output made piece;
 }
 
 -- the image and the output of a moment are left by a stop in it
-pub pair_at-left : (pick : Pick) (begun : Left) (m : Moment) → FillsBytes pick → is_possible begun.image (onto m.running m.made) ≡ true → LeftAfter begun m.made m.running (pair_at pick begun m)
+pub pair_at-left : (pick : Pick) (begun : Left) (m : Moment) → are_bytes (image_at pick begun.image m) ≡ true → is_possible begun.image (onto m.running m.made) ≡ true → LeftAfter begun m.made m.running (pair_at pick begun m)
 pair_at-left pick begun m p possible = running_left pick begun m.made m.running p possible
 
 -- and so by a stop since it
@@ -138,16 +120,19 @@ left_in_moment begun n [] c l h = (l, h)
 left_in_moment begun n (call ∷ calls) c l h = ⊎_elim
     (λ same. inr (inl (omega arith, subst (λ m. LeftAfter begun m.made m.running c) (moment-at n call calls same) h)))
     (λ apart. ⊎_elim
-      (λ before. inr (inr (left_in_moment begun n calls c (omega arith) (subst (λ m. LeftAfter begun m.made m.running c) (moment-before n call calls before) h))))
-      (λ after. inl (omega arith, subst (λ m. LeftAfter begun m.made m.running c) (moment-past n call calls after) h))
-      apart)
+    (λ before. inr (inr (left_in_moment begun n calls c (omega arith) (subst (λ m. LeftAfter begun m.made m.running c) (moment-before n call calls before) h))))
+    (λ after. inl (omega arith, subst (λ m. LeftAfter begun m.made m.running c) (moment-past n call calls after) h))
+    apart)
     (cases_order n (length calls))
 
 -- a host that was restarted with that pair
 
-pub restarted_at : (pick : Pick) (n : ℕ) (h new : MemHostState) → FillsBytes pick → is_possible h.begun.image h.calls ≡ true → new ≡ fresh_host (pair_at pick h.begun (moment n h.calls)) [] → LeftAt n h (pair_of new)
+pub restarted_since : (n : ℕ) (h new : MemHostState) → n ≤ length h.calls → LeftAt n h (pair_of new) → LeftSince h.begun h.calls n (pair_of new)
+restarted_since n h new l left = left_in_moment h.begun n h.calls (pair_of new) l left
+
+pub restarted_at : (pick : Pick) (n : ℕ) (h new : MemHostState) → are_bytes (image_at pick h.begun.image (moment n h.calls)) ≡ true → is_possible h.begun.image h.calls ≡ true → new ≡ fresh_host (pair_at pick h.begun (moment n h.calls)) [] → LeftAt n h (pair_of new)
 restarted_at pick n h new p possible e =
     subst (λ r. LeftAt n h (pair_of r)) (sym e) (pair_at-left pick h.begun (moment n h.calls) p (moment-possible h.begun.image n h.calls possible))
 
-pub fresh_settled : (pair : Left) (listed : List ℕ) → Settled (shown_of (fresh_host pair listed))
-fresh_settled pair listed c left f e = untouched _ _ left.image.differs ∙ same_Some _ _ e
+pub restarted_settled : (h : MemHostState) → h.calls ≡ [] → Settled (shown_of h)
+restarted_settled h e = subst (λ cs. Settled (shown_of (record h { calls = cs }))) (sym e) (λ c left f is. untouched _ _ left.image.differs ∙ same_Some _ _ is)

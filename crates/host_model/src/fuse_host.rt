@@ -48,7 +48,12 @@ impl FuseHost {
     pub fn into_inner(self) -> MemHost
         ensures { result ≡ self.inner }
     {
-        let FuseHost { inner, calls_left: _, disk_blown: _, out_blown: _ } = self;
+        let FuseHost {
+            inner,
+            calls_left: _,
+            disk_blown: _,
+            out_blown: _,
+        } = self;
         inner
     }
 }
@@ -95,6 +100,7 @@ impl Host for FuseHost {
         ensures listed { IsTrue (is_listed self.old.inner.next_call self.old.inner.fail) → IsErr result }
         ensures ok { OnOk result (self.new ≡ fuse_after (host_after (Wrote at bytes.now) self.old.inner) self.old) }
         ensures err { OnErr result (self.new ≡ fuse_after_disk_fault self.old) }
+        ensures goes { Goes (Tears at (length bytes.now)) (shown_of self.old) (shown_of self.new) }
     {
         if self.calls_left == 0 {
             self.disk_blown = with_fault(self.disk_blown);
@@ -109,6 +115,7 @@ impl Host for FuseHost {
         ensures listed { IsTrue (is_listed self.old.inner.next_call self.old.inner.fail) → IsErr result }
         ensures ok { OnOk result (self.new ≡ fuse_after (host_after Synced self.old.inner) self.old) }
         ensures err { OnErr result (self.new ≡ fuse_after_disk_fault self.old) }
+        ensures goes { Goes Stays (shown_of self.old) (shown_of self.new) }
     {
         if self.calls_left == 0 {
             self.disk_blown = with_fault(self.disk_blown);
@@ -123,6 +130,7 @@ impl Host for FuseHost {
         ensures listed { IsTrue (is_listed self.old.inner.next_call self.old.inner.fail) → IsErr result }
         ensures ok { OnOk result (self.new ≡ fuse_after (host_after (Put bytes.now) self.old.inner) self.old) }
         ensures err { OnErr result (self.new ≡ fuse_after_out_fault self.old) }
+        ensures goes { Goes (Says bytes.now) (shown_of self.old) (shown_of self.new) }
     {
         if self.calls_left == 0 {
             self.out_blown = with_fault(self.out_blown);

@@ -34,13 +34,18 @@ impl Model for PerfectHost {
 
     // The room was taken.
     ghost invariant = { λ h.
-      (vec_len h.file ≤ h.file_room) × (h.file_room ≤ vec_capacity h.file)
-      × (vec_len h.said ≤ h.out_room) × (h.out_room ≤ vec_capacity h.said) };
+        (vec_len h.file ≤ h.file_room) × (h.file_room ≤ vec_capacity h.file)
+        × (vec_len h.said ≤ h.out_room) × (h.out_room ≤ vec_capacity h.said) };
 }
 
 impl PerfectHost {
     /// A host with this file that has said nothing, with room for so many bytes of the two. `Memory`: no such room.
-    pub fn new(alloc: Global, file: &[u8], file_room: usize, out_room: usize) -> Result<PerfectHost, Memory>
+    pub fn new(
+        alloc: Global,
+        file: &[u8],
+        file_room: usize,
+        out_room: usize,
+    ) -> Result<PerfectHost, Memory>
         requires { length file.now ≤ file_room }
         ensures { IfOk result (λ h. h ≡ fresh_perfect file.now file_room out_room) }
     {
@@ -129,7 +134,9 @@ impl Host for PerfectHost {
         ensures err { OnErr result (self.new ≡ perfect_after_out_fault self.old) }
         ensures never_falls { self.old.out_faults ≤ self.new.out_faults }
     {
-        if bytes.len() <= self.out_room - self.said.len() && self.said.extend_from_slice(bytes).is_ok() {
+        if bytes.len() <= self.out_room - self.said.len()
+            && self.said.extend_from_slice(bytes).is_ok()
+        {
             return Ok(());
         }
         self.out_faults = with_fault(self.out_faults);

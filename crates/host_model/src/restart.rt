@@ -115,12 +115,7 @@ fn patch(image: &mut Vec<u8>, picked: &[u8], calls: &[Kept]) -> Result<(), Memor
 }
 
 // The image of a file that was synced as this one, with these calls since.
-fn image_of(
-    alloc: Global,
-    pick: Pick,
-    synced: &[u8],
-    calls: &[Kept],
-) -> Result<Vec<u8>, Memory>
+fn image_of(alloc: Global, pick: Pick, synced: &[u8], calls: &[Kept]) -> Result<Vec<u8>, Memory>
     requires { is_possible synced.now (newest_first calls.now) ≡ true }
     ensures { IfOk result (λ v. v.items ≡ picked_image pick (written (newest_first calls.now)) synced.now
         (file_after synced.now (newest_first calls.now))) }
@@ -175,7 +170,11 @@ pub(crate) fn output_after(
     ensures { IfOk result (λ v. v.items ≡ output_at pick first.now (moment at (newest_first calls.now))) }
 {
     let mut said = first.to_vec(alloc)?;
-    let end = if let Pick::Old = pick { at } else { stop_end(calls, at) };
+    let end = if let Pick::Old = pick {
+        at
+    } else {
+        stop_end(calls, at)
+    };
     say_again(&mut said, &calls[..end])?;
     Ok(said)
 }

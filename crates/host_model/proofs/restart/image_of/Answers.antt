@@ -29,5 +29,5 @@ returns c =
     let rs = written (newest_first c.args.calls.now) in
     let reach = ap length file ∙ length_written c.args.synced.now (newest_first c.args.calls.now) c.requires in
     picked_is c.args.pick rs c.args.synced.now c.deref.result.now c.deref-2.result.now c.patch.new.image.items (greatest_but_old c.args.pick _ _ c.in_default.not-Old) reach (c.deref-2.ensures.value ∙ c.in_ok-picked.ensures)
-        (subst (λ l. IsPatched rs l c.deref-2.result.now c.patch.new.image.items) image c.in_ok-patch.ensures)
+    (subst (λ l. IsPatched rs l c.deref-2.result.now c.patch.new.image.items) image c.in_ok-patch.ensures)
     ∙ ap (λ f. picked_image c.args.pick rs c.args.synced.now f) file

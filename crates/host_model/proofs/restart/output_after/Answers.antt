@@ -12,10 +12,10 @@ returns c =
     let first : c.in_ok-said.said.items ≡ c.args.first.now = search rules in
     c.in_ok-say_again.ensures ∙ ap (λ f. said_after f (newest_first (take c.match-pick.end c.args.calls.now))) first
     ∙ elim c.match-pick.branch [
-      in-Old w ↦
+      | in-Old w ↦
           ap (λ n. said_after c.args.first.now (newest_first (take n c.args.calls.now))) w.end-is ∙ output_old c.args.first.now c.args.calls.now c.args.at c.requires
           ∙ ap (λ p. output_at p c.args.first.now (moment c.args.at (newest_first c.args.calls.now))) (sym w.in-Old.is)
-    | in_default w ↦
+      | in_default w ↦
           ap (λ n. said_after c.args.first.now (newest_first (take n c.args.calls.now))) w.end-is
           ∙ output_whole c.args.pick c.args.first.now c.args.calls.now c.args.at w.stop_end-end.result c.requires w.stop_end-end.ensures w.in_default.not-Old
     ]
