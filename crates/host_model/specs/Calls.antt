@@ -58,7 +58,8 @@ piece_of (Some Synced) = []
 piece_of (Some (Wrote at bytes)) = []
 piece_of None = []
 
--- what a stop leaves after these calls, while another one may go on
+-- What a stop leaves after these calls, while another one may go on: outside the ranges written since the last sync,
+-- with that of the one that goes on, the bytes as of that sync. It is told where calls can have made this.
 pub record LeftAfter (begun : Left) (calls : List Call) (running : Option Call) (c : Left) : Type 0 where
   pub possible : IsTrue (is_possible begun.image calls)
   pub image : IsImage (ranges_of running ++ unsynced calls) (synced_after begun.image calls) c.image

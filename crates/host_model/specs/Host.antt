@@ -1,7 +1,7 @@
 -- What a host shows, and what its calls do to that. All of it is this project's own.
 use Rattle.std.specs.Prelude.{◌≡◌, ◌≤◌, ◌<◌, ◌+◌, ◌++◌, ◌⊎◌, ◌↔◌, ℕ, Bool, List, [], ◌∷◌, length, take, Option, Some, option_map, IsTrue}
 use Rattle.host_model.specs.Counts.{raised}
-use Rattle.host_model.specs.Disk.{IsImage, range, are_bytes, WhereTold}
+use Rattle.host_model.specs.Disk.{Range, range, IsImage, are_bytes, WhereTold}
 
 -- what a stop leaves: an image of the file, and the output up to there
 pub record Left : Type 0 where
@@ -39,10 +39,14 @@ pub record IsCoherent (h : Shown) : Type 0 where
 abbrev pub Settled : Shown → Type 0
 Settled h = (c : Left) → h.may_leave c → WhereTold h.file (λ f. c.image ≡ f)
 
--- What a call in progress does to what a stop leaves. A write: any bytes in its range.
-pub record Tears (at n : ℕ) (old new : Left) : Type 0 where
-  pub image : IsImage (range at n ∷ []) old.image new.image
+-- What a call in progress does to what a stop leaves. Writes to these ranges: any bytes in them.
+pub record TearsIn (ranges : List Range) (old new : Left) : Type 0 where
+  pub image : IsImage ranges old.image new.image
   pub output : new.output ≡ old.output
+
+-- one write
+abbrev pub Tears : ℕ → ℕ → Left → Left → Type 0
+Tears at n = TearsIn (range at n ∷ [])
 
 -- a sync: nothing
 abbrev pub Stays : Left → Left → Type 0

@@ -9,24 +9,24 @@ use Rattle.std.proofs.lemmas.List.{ext_get_or, get_or-take, get_or-drop, get_or_
 use Rattle.std.proofs.Common.{add-zero}
 use Rattle.std.proofs.lemmas.List.Folds.{list_all-append}
 use Rattle.std.proofs.lemmas.List.FromFn.{length-map-range_with_len, get_or-map-range_with_len}
-use Rattle.std.proofs.Math.Bool.{or-false}
+use Rattle.std.proofs.Math.Bool.{or-false, false-or, or_assoc}
 use Rattle.host_model.specs.Disk.{are_bytes, written_at, Range, range, is_in, in_doubt, furthest, DiffersIn, IsImage}
 
--- places of two lists
-
+-- Where two lists agree at a place, and the first has it, both have the same there.
 pub same_at : (a b : List ℕ) (k d : ℕ) → slice_get a k ≡ slice_get b k → k < length a → (k < length b) × (get_or a k d ≡ get_or b k d)
 same_at a b k d e l =
     let s : slice_get b k ≡ Some (get_or a k d) = sym e ∙ slice_get-get_or a k d l in
     (slice_get_within b k _ s, sym (get_or_from_slice_get b k _ d s))
 
+-- Two lists with the same at a place agree there.
 pub get_same : (a b : List ℕ) (k : ℕ) → k < length a → k < length b → get_or a k 0 ≡ get_or b k 0 → slice_get a k ≡ slice_get b k
 get_same a b k la lb e = slice_get-get_or a k 0 la ∙ ap Some e ∙ sym (slice_get-get_or b k 0 lb)
 
+-- Two lists agree past both their ends.
 pub get_past : (a b : List ℕ) (k : ℕ) → length a ≤ k → length b ≤ k → slice_get a k ≡ slice_get b k
 get_past a b k la lb = slice_get_past a k la ∙ sym (slice_get_past b k lb)
 
--- ranges
-
+-- A place is in a range from its first to before its end, and in no other case.
 pub is_in-true : (r : Range) (k : ℕ) → r.from ≤ k → k < r.from + r.count → is_in r k ≡ true
 is_in-true r k a b = and_from _ _ (le-leb _ _ a) (lt-ltb _ _ b)
 
@@ -42,22 +42,24 @@ is_in-above r k b = and_right _ _ (le-ltb _ _ b)
 pub is_in-parts : (r : Range) (k : ℕ) → is_in r k ≡ true → (r.from ≤ k) × (k < r.from + r.count)
 is_in-parts r k e = let p = and_parts _ _ e in (leb-true _ _ p.0, ltb-true _ _ p.1)
 
+-- two tests that are false
 pub or_falses : (x y : Bool) → x ≡ false → y ≡ false → (x || y) ≡ false
 or_falses x y p q = rw (p, q) refl
 
--- a place that is not in a range is outside it alone
+-- A place that is not in a range is outside it alone.
 pub alone : (r : Range) (k : ℕ) → is_in r k ≡ false → in_doubt (r ∷ []) k ≡ false
 alone r k e = or-false (is_in r k) ∙ e
 
+-- Ranges reach no less far than the length.
 pub furthest-ge : (len : ℕ) (ranges : List Range) → len ≤ furthest len ranges
 furthest-ge len [] = omega arith
 furthest-ge len (r ∷ rs) = omega (arith, furthest-ge len rs)
 
--- a write
-
+-- A file after a write is as long as before, or as the write reaches.
 pub length-written_at : (at : ℕ) (bytes file : List ℕ) → at ≤ length file → length (written_at at bytes file) ≡ max (length file) (at + length bytes)
 length-written_at at bytes file l = simp (length-append, length-take, length-drop) (omega arith)
 
+-- Before, in and behind its range, a byte is the old one, that of the piece, and the old one.
 pub get_or-written_below : (at : ℕ) (bytes file : List ℕ) (k : ℕ) → at ≤ length file → k < at → get_or (written_at at bytes file) k 0 ≡ get_or file k 0
 get_or-written_below at bytes file k l b = grind (arith, common_steps)
 
@@ -84,6 +86,16 @@ DiffersIn-written at bytes file l =
       no_longer = omega (arith, len);
     }
 
+-- a place is in doubt in some of the ranges or in the others
+pub in_doubt-append : (qs rs : List Range) (k : ℕ) → in_doubt (qs ++ rs) k ≡ (in_doubt qs k || in_doubt rs k)
+in_doubt-append [] rs k = sym (false-or (in_doubt rs k))
+in_doubt-append (q ∷ qs) rs k = ap (λ b. is_in q k || b) (in_doubt-append qs rs k) ∙ sym (or_assoc (is_in q k) (in_doubt qs k) (in_doubt rs k))
+
+-- ranges reach as far from where others reached
+pub furthest-then : (qs rs : List Range) (m n : ℕ) → n ≤ furthest m rs → furthest n qs ≤ furthest m (qs ++ rs)
+furthest-then [] rs m n l = l
+furthest-then (q ∷ qs) rs m n l = omega (arith, furthest-then qs rs m n l)
+
 -- Nothing written differs nowhere.
 pub DiffersIn-refl : (ranges : List Range) (file : List ℕ) → DiffersIn ranges file file
 DiffersIn-refl ranges file = record { outside = λ k e. refl; no_shorter = omega arith; no_longer = furthest-ge (length file) ranges }
@@ -96,8 +108,15 @@ DiffersIn-more r rs a b c p q = record {
   no_longer = omega (arith, p.no_longer, q.no_longer);
 }
 
--- the parts of a file that a torn write leaves: before its range, behind it, and any part that it does not meet
+-- What may differ in some ranges, and then in others, differs in all of them.
+pub DiffersIn-then : (qs rs : List Range) (a b c : List ℕ) → DiffersIn rs a b → DiffersIn qs b c → DiffersIn (qs ++ rs) a c
+DiffersIn-then qs rs a b c p q = record {
+  outside = λ k e. let parts = or_parts _ _ (sym (in_doubt-append qs rs k) ∙ e) in q.outside k parts.0 ∙ p.outside k parts.1;
+  no_shorter = omega (arith, p.no_shorter, q.no_shorter);
+  no_longer = omega (arith, q.no_longer, furthest-then qs rs (length a) (length b) p.no_longer);
+}
 
+-- A torn write leaves the part before its range.
 pub before_range : (at n : ℕ) (old new : List ℕ) → DiffersIn (range at n ∷ []) old new → at ≤ length old → take at new ≡ take at old
 before_range at n old new d l =
     let longer = d.no_shorter in
@@ -106,6 +125,7 @@ before_range at n old new d l =
     let same = same_at new old k 0 (d.outside k (alone (range at n) k (is_in-below (range at n) k below))) (omega arith) in
     get_or-take at new k 0 below ∙ same.1 ∙ sym (get_or-take at old k 0 below))
 
+-- A torn write leaves the part behind its range.
 pub behind_range : (at n : ℕ) (old new : List ℕ) → DiffersIn (range at n ∷ []) old new → drop (at + n) new ≡ drop (at + n) old
 behind_range at n old new d =
     let longer = d.no_shorter in
@@ -115,7 +135,7 @@ behind_range at n old new d =
     let same = same_at new old (at + n + k) 0 (d.outside (at + n + k) (alone (range at n) (at + n + k) (is_in-above (range at n) (at + n + k) (omega arith)))) (omega arith) in
     get_or-drop (at + n) new k 0 ∙ same.1 ∙ sym (get_or-drop (at + n) old k 0))
 
--- a part of the old file that the ranges do not meet is as it was
+-- A part of the old file that the ranges do not meet is as it was.
 pub outside_ranges : (ranges : List Range) (i j : ℕ) (old new : List ℕ) → DiffersIn ranges old new → j ≤ length old → ((k : ℕ) → i ≤ k → k < j → in_doubt ranges k ≡ false) → slice_range new i j ≡ slice_range old i j
 outside_ranges ranges i j old new d l free =
     let longer = d.no_shorter in
@@ -124,7 +144,7 @@ outside_ranges ranges i j old new d l free =
     let same = same_at new old (i + k) 0 (d.outside (i + k) (free (i + k) (omega arith) within)) (omega arith) in
     get_or-take (j - i) (drop i new) k 0 (omega arith) ∙ get_or-drop i new k 0 ∙ same.1 ∙ sym (get_or-take (j - i) (drop i old) k 0 (omega arith) ∙ get_or-drop i old k 0))
 
--- the part of the file before or behind one range
+-- So is a part before one range or behind it.
 pub outside_range : (at n i j : ℕ) (old new : List ℕ) → DiffersIn (range at n ∷ []) old new → j ≤ length old → (j ≤ at) ⊎ (at + n ≤ i) → slice_range new i j ≡ slice_range old i j
 outside_range at n i j old new d l apart =
     outside_ranges (range at n ∷ []) i j old new d l (λ k a b. alone (range at n) k (⊎_elim
@@ -132,7 +152,7 @@ outside_range at n i j old new d l apart =
     (λ behind. is_in-above (range at n) k (omega arith))
     apart))
 
--- a write of no byte leaves the file
+-- A write of no byte leaves the file.
 pub nothing_torn : (at : ℕ) (old new : List ℕ) → DiffersIn (range at 0 ∷ []) old new → at ≤ length old → new ≡ old
 nothing_torn at old new d l =
     let before = before_range at 0 old new d l in
@@ -141,7 +161,7 @@ nothing_torn at old new d l =
     let new_parts = take-append-drop at new in
     cc
 
--- a range may be made wider
+-- What may differ in a range may differ in a wider one.
 pub widened : (at n from count : ℕ) (old new : List ℕ) → from ≤ at → at + n ≤ from + count → DiffersIn (range at n ∷ []) old new → DiffersIn (range from count ∷ []) old new
 widened at n from count old new a b d = record {
   outside = λ k e. d.outside k (alone (range at n) k (⊎_elim
@@ -152,7 +172,7 @@ widened at n from count old new a b d = record {
   no_longer = omega (arith, d.no_longer);
 }
 
--- two torn writes of one range are one
+-- Two torn writes of one range are one.
 pub torn_again : (at n : ℕ) (a b c : List ℕ) → DiffersIn (range at n ∷ []) a b → DiffersIn (range at n ∷ []) b c → DiffersIn (range at n ∷ []) a c
 torn_again at n a b c p q = record {
   outside = λ k e. q.outside k e ∙ p.outside k e;
@@ -160,17 +180,18 @@ torn_again at n a b c p q = record {
   no_longer = omega (arith, p.no_longer, q.no_longer);
 }
 
--- bytes
-
+-- Each of some bytes is below 256; past their end 0 is read.
 pub are_bytes-at : (xs : List ℕ) (k : ℕ) → are_bytes xs ≡ true → get_or xs k 0 < 256
 are_bytes-at [] k e = omega arith
 are_bytes-at (x ∷ xs) zero e = ltb-true _ _ (and_parts _ _ e).0
 are_bytes-at (x ∷ xs) (suc k) e = are_bytes-at xs k (and_parts _ _ e).1
 
+-- Numbers below 256 are bytes.
 pub are_bytes-from : (xs : List ℕ) → ((k : ℕ) → k < length xs → get_or xs k 0 < 256) → are_bytes xs ≡ true
 are_bytes-from [] h = refl
 are_bytes-from (x ∷ xs) h = and_from _ _ (lt-ltb _ _ (h 0 (omega arith))) (are_bytes-from xs (λ k l. h (suc k) (omega arith)))
 
+-- A write of bytes to bytes leaves bytes.
 pub are_bytes-written_at : (at : ℕ) (bytes file : List ℕ) → are_bytes file ≡ true → are_bytes bytes ≡ true → are_bytes (written_at at bytes file) ≡ true
 are_bytes-written_at at bytes file f b =
     let p : ℕ → Bool = λ b. nat_lt b 256 in
@@ -178,7 +199,7 @@ are_bytes-written_at at bytes file f b =
     let back = (and_parts _ _ (sym (list_all-append p (take (at + length bytes) file) (drop (at + length bytes) file)) ∙ ap are_bytes (take-append-drop (at + length bytes) file) ∙ f)).1 in
     list_all-append p (take at file ++ bytes) (drop (at + length bytes) file) ∙ and_from _ _ (list_all-append p (take at file) bytes ∙ and_from _ _ front b) back
 
--- what differs in no range is the same
+-- What differs in no range is the same.
 pub untouched : (old new : List ℕ) → DiffersIn [] old new → new ≡ old
 untouched old new d =
     let longer = d.no_shorter in

@@ -1,6 +1,6 @@
 // A host that stops serving after some calls.
-ghost use Rattle.std.specs.Prelude.{◌≡◌, ◌≤◌, ◌+◌, ◌∷◌, [], length, slice_range, IsErr, IsTrue, IfOk, OnOk, OnErr};
-ghost use Rattle.host_model.specs.Counts.{Rose, is_listed};
+ghost use Rattle.std.specs.Prelude.{◌≡◌, ◌⊎◌, ◌≤◌, ◌+◌, length, slice_range, IsErr, IsTrue, IfOk, OnOk, OnErr};
+ghost use Rattle.host_model.specs.Counts.{is_listed};
 ghost use Rattle.host_model.specs.Host.{Goes, Tears, Stays, Says};
 ghost use Rattle.host_model.specs.Calls.Call.{Wrote, Synced, Put};
 ghost use Rattle.host_model.specs.MemHost.{file_of, host_after_len, host_after_read, host_after};
@@ -63,9 +63,11 @@ impl Host for FuseHost {
 
     ghost coherent = { is_coherent };
 
+    /// Fails where its calls are used up, and where the inner host does; so does each call.
     fn len(&mut self) -> Result<u64, DiskFailed>
         ensures blown { self.old.calls_left ≡ 0 → IsErr result }
         ensures listed { IsTrue (is_listed self.old.inner.next_call self.old.inner.fail) → IsErr result }
+        ensures only_then { IsErr result → (self.old.calls_left ≡ 0) ⊎ IsTrue (is_listed self.old.inner.next_call self.old.inner.fail) }
         ensures length { IfOk result (λ n. n ≡ length (file_of self.old.inner)) }
         ensures ok { OnOk result (self.new ≡ fuse_after (host_after_len self.old.inner) self.old) }
         ensures err { OnErr result (self.new ≡ fuse_after_disk_fault self.old) }
@@ -82,6 +84,7 @@ impl Host for FuseHost {
         requires { at + length buf.old ≤ length (file_of self.old.inner) }
         ensures blown { self.old.calls_left ≡ 0 → IsErr result }
         ensures listed { IsTrue (is_listed self.old.inner.next_call self.old.inner.fail) → IsErr result }
+        ensures only_then { IsErr result → (self.old.calls_left ≡ 0) ⊎ IsTrue (is_listed self.old.inner.next_call self.old.inner.fail) }
         ensures given { OnOk result (buf.new ≡ slice_range (file_of self.old.inner) at (at + length buf.old)) }
         ensures ok { OnOk result (self.new ≡ fuse_after (host_after_read self.old.inner) self.old) }
         ensures err { OnErr result (self.new ≡ fuse_after_disk_fault self.old) }

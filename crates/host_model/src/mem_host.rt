@@ -135,6 +135,7 @@ impl Host for MemHost {
         Ok(self.log.file().len() as u64)
     }
 
+    /// Fails exactly at a listed call. A read that failed is not counted.
     fn read_at(&mut self, at: u64, buf: &mut [u8]) -> Result<(), DiskFailed>
         requires { at + length buf.old ≤ length (file_of self.old) }
         ensures listed { IsErr result ↔ IsTrue (is_listed self.old.next_call self.old.fail) }
@@ -157,6 +158,8 @@ impl Host for MemHost {
         Ok(())
     }
 
+    /// Fails at each listed call, and else only for want of memory, which `starved` tells from then on. A call that
+    /// fails has no effect but the count of its fault.
     fn write_at(&mut self, at: u64, bytes: &[u8]) -> Result<(), DiskFailed>
         requires { at ≤ length (file_of self.old) }
         ensures listed { IsTrue (is_listed self.old.next_call self.old.fail) → IsErr result }
@@ -175,6 +178,8 @@ impl Host for MemHost {
         Err(DiskFailed)
     }
 
+    /// Fails at each listed call, and else only for want of memory, which `starved` tells from then on. A call that
+    /// fails has no effect but the count of its fault.
     fn sync(&mut self) -> Result<(), DiskFailed>
         ensures listed { IsTrue (is_listed self.old.next_call self.old.fail) → IsErr result }
         ensures ok { OnOk result (self.new ≡ host_after Synced self.old) }
@@ -192,6 +197,8 @@ impl Host for MemHost {
         Err(DiskFailed)
     }
 
+    /// Fails at each listed call, and else only for want of memory, which `starved` tells from then on. A call that
+    /// fails has no effect but the count of its fault.
     fn put(&mut self, bytes: &[u8]) -> Result<(), OutFailed>
         ensures listed { IsTrue (is_listed self.old.next_call self.old.fail) → IsErr result }
         ensures ok { OnOk result (self.new ≡ host_after (Put bytes.now) self.old) }
