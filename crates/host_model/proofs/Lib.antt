@@ -1,1 +1,7 @@
 pub mod Writes
+pub mod Filling
+pub mod Goes
+pub mod Kept
+pub mod Moments
+pub mod Patches
+pub mod Again

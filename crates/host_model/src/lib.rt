@@ -8,19 +8,30 @@
 
 mod counts;
 mod file_host;
+mod fuse_host;
+mod log;
 mod mem_host;
 mod mem_source;
+mod overwrite;
+mod perfect_host;
 mod reading;
+mod real_file;
+mod restart;
 mod std_source;
+mod steps;
 mod writing;
 
 pub use file_host::FileHost;
+pub use fuse_host::FuseHost;
 pub use mem_host::MemHost;
 pub use mem_source::MemSource;
+pub use perfect_host::PerfectHost;
 pub use reading::{Source, SourceFailed};
+pub use restart::Pick;
 pub use std::alloc::AllocError as Memory;
 pub use std_source::StdSource;
-pub use writing::{Host, OutFailed};
+pub use steps::write_and_sync;
+pub use writing::{DiskFailed, Host, OutFailed};
 
 #[cfg(test)]
 mod tests;

@@ -9,6 +9,8 @@ use std::io;
 use std::io::{BufRead, ErrorKind, Lines, Read, Write};
 use std::test::Fail;
 
+mod hosts;
+
 // What six reads gave: the bytes, `.` for 0 and `!` for a failure, each with a space behind it.
 fn six_reads<S: Source>(alloc: Global, source: &mut S) -> Result<Vec<u8>, Memory> {
     let mut told = Vec::new(alloc);

@@ -1,0 +1,61 @@
+-- What a run of calls leaves at a stop: how calls compose. All of it is this project's own.
+use Rattle.std.specs.Prelude.{◌≡◌, ◌≤◌, ◌⊎◌, ◌++◌, ℕ, List, Some}
+use Rattle.std.proofs.Common.{arith, sym, ap, ◌∙◌, refl, subst, inl, inr, ⊎_elim}
+use Rattle.host_model.specs.Disk.{Range, DiffersIn}
+use Rattle.host_model.specs.Torn.{DiffersIn-then}
+use Rattle.host_model.specs.Host.{Left, Shown, IsCoherent, Settled, Reached, TearsIn, Stays, Rests, Goes, LeavesOnly}
+
+-- Before its first call a run leaves nothing new.
+pub leaves_start : (h : Shown) (P : Left → Type 0) → LeavesOnly h h P
+leaves_start h P = record { tells = refl; later = omega arith; during = λ t c le left. inl left }
+
+-- One call leaves only P, where each pair that its step leads to has P.
+pub leaves_by_call : (step : Left → Left → Type 0) (old new : Shown) (P : Left → Type 0) → Goes step old new → ((c : Left) → Reached step old.may_leave c → P c) → LeavesOnly old new P
+leaves_by_call step old new P goes has = record {
+  tells = goes.tells;
+  later = goes.later;
+  during = λ t c le left. ⊎_elim (λ before. inl before) (λ r. inr (has c r)) (goes.during t c le left);
+}
+
+-- One call that only reads leaves nothing new.
+pub leaves_by_rest : (old new : Shown) (P : Left → Type 0) → Rests old new → LeavesOnly old new P
+leaves_by_rest old new P rests = record { tells = rests.tells; later = omega (arith, rests.clock); during = λ t c le left. inl ((rests.since t c).0 left) }
+
+-- Two runs, one after the other, leave only P where each does.
+pub leaves_then : (old mid new : Shown) (P : Left → Type 0) → LeavesOnly old mid P → LeavesOnly mid new P → LeavesOnly old new P
+leaves_then old mid new P first next = record {
+  tells = next.tells ∙ first.tells;
+  later = omega (arith, first.later, next.later);
+  during = λ t c le left. ⊎_elim (λ before. first.during t c le before) (λ p. inr p) (next.during t c (omega (arith, le, first.later)) left);
+}
+
+-- A run that leaves only P leaves only Q, where P implies Q.
+pub leaves_weaker : (old new : Shown) (P Q : Left → Type 0) → ((c : Left) → P c → Q c) → LeavesOnly old new P → LeavesOnly old new Q
+leaves_weaker old new P Q so run = record { tells = run.tells; later = run.later; during = λ t c le left. ⊎_elim (λ before. inl before) (λ p. inr (so c p)) (run.during t c le left) }
+
+-- Each pair that a stop since the start of a run leaves has P, where what was left at the start has P.
+pub leaves_each : (old new : Shown) (P : Left → Type 0) → IsCoherent old → ((c : Left) → old.may_leave c → P c) → LeavesOnly old new P → (c : Left) → new.left_since old.clock c → P c
+leaves_each old new P coherent here run c left = ⊎_elim (λ before. here c (coherent.only_now c before)) (λ p. p) (run.during old.clock c (omega arith) left)
+
+-- While a sync runs, and after it, a stop leaves only what it left before.
+pub stays_was_left : (before : Left → Type 0) (c : Left) → Reached Stays before c → before c
+stays_was_left before c r = subst before (sym r.stepped) r.was_left
+
+-- Writes to some ranges, and then to others, are writes to all of them.
+pub tears_then : (qs rs : List Range) (before : Left → Type 0) (c : Left) → Reached (TearsIn qs) (Reached (TearsIn rs) before) c → Reached (TearsIn (qs ++ rs)) before c
+tears_then qs rs before c r = let first = r.was_left in record {
+  start = first.start;
+  was_left = first.was_left;
+  stepped = record {
+    image = record { differs = DiffersIn-then qs rs _ _ _ first.stepped.image.differs r.stepped.image.differs; bytes = r.stepped.image.bytes };
+    output = r.stepped.output ∙ first.stepped.output;
+  };
+}
+
+-- From a settled host, writes leave its file torn in their ranges.
+pub torn_from_settled : (ranges : List Range) (h : Shown) (f : List ℕ) (c : Left) → Settled h → h.file ≡ Some f → Reached (TearsIn ranges) h.may_leave c → DiffersIn ranges f c.image
+torn_from_settled ranges h f c settled told r = subst (λ i. DiffersIn ranges i c.image) (settled r.start r.was_left f told) r.stepped.image.differs
+
+-- Writes leave the output that was said.
+pub output_from_tears : (ranges : List Range) (h : Shown) (o : List ℕ) (c : Left) → IsCoherent h → h.said ≡ Some o → Reached (TearsIn ranges) h.may_leave c → c.output ≡ o
+output_from_tears ranges h o c coherent told r = r.stepped.output ∙ coherent.outputs r.start r.was_left o told

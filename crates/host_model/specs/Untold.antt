@@ -1,0 +1,42 @@
+-- A host that does not tell its stops.
+use Rattle.std.specs.Prelude.{◌≡◌, ◌≤◌, ℕ, Bool, true, false, List, Option}
+use Rattle.std.proofs.Common.{arith, refl}
+use Rattle.std.proofs.lemmas.Bool.{false≢true}
+use Rattle.host_model.specs.Host.{Left, Shown, IsCoherent, Goes}
+
+-- what it shows: its file and its output where it tells them, and its counts of faults
+abbrev pub without_stops : Option (List ℕ) → Option (List ℕ) → ℕ → ℕ → Shown
+without_stops file_read output disk out = record {
+  file = file_read;
+  said = output;
+  tells_stops = false;
+  may_leave = λ c. ⊥;
+  left_since = λ t c. ⊥;
+  clock = 0;
+  reads = 0;
+  disk_faults = disk;
+  out_faults = out;
+}
+
+pub untold_coherent : (f o : Option (List ℕ)) (disk out : ℕ) → IsCoherent (without_stops f o disk out)
+untold_coherent f o disk out = record {
+  now_left = λ told. absurd (false≢true told);
+  outputs = λ c left. absurd left;
+  counts_now = λ c left. left;
+  only_now = λ c left. left;
+  earlier = λ s t c le left. left;
+  bytes = λ t c left. absurd left;
+}
+
+-- each of its calls goes on as it should, since nothing is told
+pub untold_goes : (step : Left → Left → Type 0) (f o g p : Option (List ℕ)) (disk out disks outs : ℕ) → Goes step (without_stops f o disk out) (without_stops g p disks outs)
+untold_goes step f o g p disk out disks outs = record {
+  tells = refl;
+  later = omega arith;
+  by_one = omega arith;
+  after = λ c left. absurd left;
+  during = λ t c le left. absurd left;
+  keeps = λ t c le left. left;
+  reaches = λ told. absurd (false≢true told);
+  still = λ told. absurd (false≢true told);
+}
