@@ -22,6 +22,7 @@ mod integer;
 mod laws;
 mod name;
 mod nest;
+mod print_bits;
 mod printed_laws;
 mod printing;
 mod reader;
