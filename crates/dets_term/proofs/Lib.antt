@@ -2,3 +2,5 @@
 pub mod Limited
 pub mod NodeKinds
 pub mod Texts
+pub mod Fronts
+pub mod BitOrder

@@ -11,7 +11,7 @@ use std::marker::Model;
 #[cycle(term)]
 #[derive(Drop)]
 pub struct PairList {
-    items: Vec<(Term, Term)>,
+    pub(crate) items: Vec<(Term, Term)>,
     // the greatest depth among the keys and values, 0 where there is none
     levels: u32,
 }

@@ -34,7 +34,7 @@ pub enum Node {
 #[cycle(term)]
 #[derive(Drop)]
 pub struct Term {
-    node: Node,
+    pub(crate) node: Node,
     levels: u32,
 }
 
