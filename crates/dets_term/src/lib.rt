@@ -1,4 +1,4 @@
-//! Erlang's terms: integers, atoms, tuples, maps, lists and bit strings, with depth, order and keys.
+//! Erlang's terms: integers, atoms, tuples, maps, lists and bit strings, with depth, order, keys and a hash.
 //!
 //! The lowest crate of terms; it stands on std alone. A `Term` keeps its limits at every moment: at most
 //! 256 levels, fewer than 2^32 parts or bytes in each node, at most 255 characters in an atom. Contracts see a
@@ -6,8 +6,12 @@
 #![tactic(auto)]
 
 pub use byte_list::ByteList;
+pub use hash::hash_bytes;
 pub use kind::Kind;
-pub use laws::{same_decides, terms_are_in_a_total_order, terms_that_compare_equal_are_equal};
+pub use laws::{
+    pairs_by_key_are_the_same_pairs_in_order, same_decides, terms_are_in_a_total_order,
+    terms_that_compare_equal_are_equal,
+};
 pub use order::{cmp, eq};
 pub use pair_list::PairList;
 pub use std::alloc::AllocError as Memory;
@@ -16,6 +20,7 @@ pub use term_list::TermList;
 pub use text::Text;
 
 mod byte_list;
+mod hash;
 mod kind;
 mod laws;
 mod order;
@@ -23,4 +28,6 @@ mod pair_list;
 pub mod rows;
 mod term;
 mod term_list;
+#[cfg(test)]
+mod tests;
 mod text;
