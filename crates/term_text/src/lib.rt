@@ -23,6 +23,8 @@ mod laws;
 mod name;
 mod nest;
 mod print_bits;
+#[cfg(test)]
+mod print_tests;
 mod printed_laws;
 mod printing;
 mod reader;
