@@ -2,9 +2,9 @@
 use Rattle.std.proofs.Common.{◌≡◌, ℕ, false, nat_eq, nat_lt, List, [], ◌∷◌, length, slice_get, Some, None, refl, ap, arith}
 use Rattle.std.proofs.lemmas.Bool.Decides.{nat_tests}
 use Rattle.dets_term.specs.declared.term.Node.{Node}
-use Rattle.dets_term.specs.declared.term.Node.TheVariants.{Int, Atom, Tuple, List as ListNode}
-use Rattle.dets_term.specs.TermValue.{TermValue, integer, atom, tuple, nil, cons, chain}
-use Rattle.dets_term.specs.Node.{shown}
+use Rattle.dets_term.specs.declared.term.Node.TheVariants.{Int, Atom, Tuple, Map, List as ListNode, Improper, Bits}
+use Rattle.dets_term.specs.TermValue.{TermValue, atom, tuple, nil, chain}
+use Rattle.dets_term.specs.Node.{shown, IsSound}
 use Rattle.run_model.specs.Command.{command_of, operation, asked, is_empty_list, is_object}
 use Rattle.dets_machine.specs.Command.{name_of}
 
@@ -24,43 +24,58 @@ command_of_other_tuple (x ∷ y ∷ []) other = refl
 command_of_other_tuple (x ∷ y ∷ z ∷ []) other = absurd (other (omega arith))
 command_of_other_tuple (x ∷ y ∷ z ∷ w ∷ more) other = refl
 
-pub command_of_other : (n : Node) → ((ts : List TermValue) → n ≡ Tuple ts → ⊥) → command_of (shown n) ≡ None
-command_of_other (Int v) other = refl
-command_of_other (Atom name) other = refl
-command_of_other (Tuple parts) other = absurd (other parts refl)
-command_of_other (ListNode []) other = refl
-command_of_other (ListNode (t ∷ ts)) other = refl
+pub command_of_other : (n : Node) → IsSound n → ((ts : List TermValue) → n ≡ Tuple ts → ⊥) → command_of (shown n) ≡ None
+command_of_other (Int v) sound other = refl
+command_of_other (Atom name) sound other = refl
+command_of_other (Tuple parts) sound other = absurd (other parts refl)
+command_of_other (Map pairs) sound other = refl
+command_of_other (ListNode []) sound other = refl
+command_of_other (ListNode (t ∷ ts)) sound other = refl
+command_of_other (Improper [] tail) sound other = absurd (let some = sound.0 in omega arith)
+command_of_other (Improper (t ∷ ts) tail) sound other = refl
+command_of_other (Bits bytes used) sound other = refl
 
-pub name_of_other : (n : Node) → ((name : List ℕ) → n ≡ Atom name → ⊥) → None ≡ name_of (shown n)
-name_of_other (Int v) other = refl
-name_of_other (Atom name) other = absurd (other name refl)
-name_of_other (Tuple parts) other = refl
-name_of_other (ListNode []) other = refl
-name_of_other (ListNode (t ∷ ts)) other = refl
+pub name_of_other : (n : Node) → IsSound n → ((name : List ℕ) → n ≡ Atom name → ⊥) → None ≡ name_of (shown n)
+name_of_other (Int v) sound other = refl
+name_of_other (Atom name) sound other = absurd (other name refl)
+name_of_other (Tuple parts) sound other = refl
+name_of_other (Map pairs) sound other = refl
+name_of_other (ListNode []) sound other = refl
+name_of_other (ListNode (t ∷ ts)) sound other = refl
+name_of_other (Improper [] tail) sound other = absurd (let some = sound.0 in omega arith)
+name_of_other (Improper (t ∷ ts) tail) sound other = refl
+name_of_other (Bits bytes used) sound other = refl
 
 pub is_empty_list-chain : (ts : List TermValue) → nat_eq (length ts) 0 ≡ is_empty_list (chain ts nil)
 is_empty_list-chain [] = refl
 is_empty_list-chain (t ∷ ts) = grind (arith, nat_tests)
 
+pub is_empty_list_other : (n : Node) → IsSound n → ((ts : List TermValue) → n ≡ ListNode ts → ⊥) → false ≡ is_empty_list (shown n)
+is_empty_list_other (Int v) sound other = refl
+is_empty_list_other (Atom name) sound other = refl
+is_empty_list_other (Tuple parts) sound other = refl
+is_empty_list_other (Map pairs) sound other = refl
+is_empty_list_other (ListNode parts) sound other = absurd (other parts refl)
+is_empty_list_other (Improper [] tail) sound other = absurd (let some = sound.0 in omega arith)
+is_empty_list_other (Improper (t ∷ ts) tail) sound other = refl
+is_empty_list_other (Bits bytes used) sound other = refl
+
 pub is_object-tuple : (ts : List TermValue) → nat_lt 0 (length ts) ≡ is_object (tuple (chain ts nil))
 is_object-tuple [] = refl
 is_object-tuple (t ∷ ts) = grind (arith, nat_tests)
 
-pub is_object_other : (n : Node) → ((ts : List TermValue) → n ≡ Tuple ts → ⊥) → false ≡ is_object (shown n)
-is_object_other (Int v) other = refl
-is_object_other (Atom name) other = refl
-is_object_other (Tuple parts) other = absurd (other parts refl)
-is_object_other (ListNode []) other = refl
-is_object_other (ListNode (t ∷ ts)) other = refl
+pub is_object_other : (n : Node) → IsSound n → ((ts : List TermValue) → n ≡ Tuple ts → ⊥) → false ≡ is_object (shown n)
+is_object_other (Int v) sound other = refl
+is_object_other (Atom name) sound other = refl
+is_object_other (Tuple parts) sound other = absurd (other parts refl)
+is_object_other (Map pairs) sound other = refl
+is_object_other (ListNode []) sound other = refl
+is_object_other (ListNode (t ∷ ts)) sound other = refl
+is_object_other (Improper [] tail) sound other = absurd (let some = sound.0 in omega arith)
+is_object_other (Improper (t ∷ ts) tail) sound other = refl
+is_object_other (Bits bytes used) sound other = refl
 
 -- what is asked by a client and an operation that are atoms
 pub asked_by_atoms : (client op argument : TermValue) (a b : List ℕ) → Some a ≡ name_of client → Some b ≡ name_of op → operation b argument ≡ asked client op argument
 asked_by_atoms (atom client) (atom name) argument a b p q = ap (λ (n : List ℕ). operation n argument) (let e : b ≡ name = cc in e)
-asked_by_atoms (atom client) (integer z) argument a b p q = cc
-asked_by_atoms (atom client) (tuple parts) argument a b p q = cc
-asked_by_atoms (atom client) nil argument a b p q = cc
-asked_by_atoms (atom client) (cons first rest) argument a b p q = cc
-asked_by_atoms (integer z) op argument a b p q = cc
-asked_by_atoms (tuple parts) op argument a b p q = cc
-asked_by_atoms nil op argument a b p q = cc
-asked_by_atoms (cons first rest) op argument a b p q = cc
+asked_by_atoms client op argument a b p q = cc

@@ -1,6 +1,6 @@
 -- What a command asks for, and what it holds.
 use Rattle.std.specs.Prelude.{ℕ, ◌<◌, List, Option, Some, None}
-use Rattle.dets_term.specs.TermValue.{TermValue, integer, atom, tuple, nil, cons, depth}
+use Rattle.dets_term.specs.TermValue.{TermValue, atom, depth}
 use Rattle.dets_machine.specs.declared.command.Command.{Command}
 use Rattle.dets_machine.specs.declared.command.Command.TheVariants.{Open, Insert, Lookup}
 use Rattle.run_model.specs.Command.{Command as Asked, open_table, insert_one, look_up}
@@ -19,8 +19,5 @@ IsBelow levels (Lookup key) = Unit {0}
 
 -- the characters of an atom
 abbrev pub name_of : TermValue → Option (List ℕ)
-name_of (integer z) = None
 name_of (atom name) = Some name
-name_of (tuple parts) = None
-name_of nil = None
-name_of (cons first rest) = None
+name_of other = None

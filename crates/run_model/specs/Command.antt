@@ -2,7 +2,7 @@
 -- dets reference manual; the shape of commands is this project's own.
 use Rattle.std.specs.Prelude.{ℕ, Bool, true, false, cond, ◌&&◌, List, [], ◌∷◌, Option, Some, None, codes}
 use Rattle.std.specs.Str.{bytes_eq}
-use Rattle.dets_term.specs.TermValue.{TermValue, integer, atom, tuple, nil, cons, elements}
+use Rattle.dets_term.specs.TermValue.{TermValue, atom, tuple, nil, elements}
 
 -- a command that is built, with its argument
 pub data Command : Type 0 where
@@ -14,11 +14,8 @@ pub data Command : Type 0 where
   look_up : TermValue → Command
 
 abbrev pub is_empty_list : TermValue → Bool
-is_empty_list (integer z) = false
-is_empty_list (atom name) = false
-is_empty_list (tuple parts) = false
 is_empty_list nil = true
-is_empty_list (cons first rest) = false
+is_empty_list other = false
 
 -- a list has an element
 abbrev pub is_filled : List TermValue → Bool
@@ -27,11 +24,8 @@ is_filled (t ∷ ts) = true
 
 -- an object of a table with keypos 1: a tuple of at least one element
 abbrev pub is_object : TermValue → Bool
-is_object (integer z) = false
-is_object (atom name) = false
 is_object (tuple parts) = is_filled (elements parts)
-is_object nil = false
-is_object (cons first rest) = false
+is_object other = false
 
 -- the command of an operation and its argument
 abbrev pub operation : List ℕ → TermValue → Option Command
@@ -43,14 +37,7 @@ operation name argument =
 -- the same of a client and an operation that may be no atoms
 abbrev pub asked : TermValue → TermValue → TermValue → Option Command
 asked (atom client) (atom name) argument = operation name argument
-asked (atom client) (integer z) argument = None
-asked (atom client) (tuple parts) argument = None
-asked (atom client) nil argument = None
-asked (atom client) (cons first rest) argument = None
-asked (integer z) name argument = None
-asked (tuple parts) name argument = None
-asked nil name argument = None
-asked (cons first rest) name argument = None
+asked client name argument = None
 
 abbrev pub of_parts : List TermValue → Option Command
 of_parts [] = None
@@ -61,8 +48,5 @@ of_parts (a ∷ b ∷ c ∷ d ∷ more) = None
 
 -- the command that a term is, if it is one that is built
 abbrev pub command_of : TermValue → Option Command
-command_of (integer z) = None
-command_of (atom name) = None
 command_of (tuple parts) = of_parts (elements parts)
-command_of nil = None
-command_of (cons first rest) = None
+command_of other = None

@@ -1,7 +1,8 @@
 -- A table of the dets reference manual: it has a kind, a position of the key, and a list of objects.
 use Rattle.std.specs.Prelude.{ℕ, Bool, false, cond, not, List, [], ◌∷◌, ◌++◌, filter, Option, Some, None}
 use Rattle.std.specs.List.{list_any}
-use Rattle.dets_term.specs.TermValue.{TermValue, key, is_same}
+use Rattle.dets_term.specs.TermValue.{TermValue, key}
+use Rattle.dets_term.specs.Order.{is_same}
 use Rattle.dets_term.specs.declared.kind.Kind.{Kind}
 use Rattle.dets_term.specs.declared.kind.Kind.TheVariants.{Set, Bag, DuplicateBag}
 

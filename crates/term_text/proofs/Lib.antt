@@ -25,3 +25,5 @@ pub mod PrintedBytes
 pub mod Computing
 pub mod Texts
 pub mod Refusals
+pub mod Joined
+pub mod PrintedBits

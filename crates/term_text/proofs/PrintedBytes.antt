@@ -1,14 +1,14 @@
 -- No byte of a printed form is below 32.
-use Rattle.std.proofs.Common.{◌≡◌, ℕ, ℤ, pos, negsuc, zero, suc, ◌/◌, ◌%◌, ◌≤◌, Bool, true, false, ◌==◌, nat_lt, not, List, [], ◌∷◌, ◌++◌, codes, arith}
+use Rattle.std.proofs.Common.{◌≡◌, ℕ, ℤ, pos, negsuc, zero, suc, ◌/◌, ◌%◌, ◌≤◌, Bool, true, false, ◌==◌, nat_lt, not, List, [], ◌∷◌, ◌++◌, length, codes, arith}
 use Rattle.std.proofs.lemmas.Bool.{and_parts, cond_both}
 use Rattle.std.proofs.lemmas.Bool.Decides.{nat_tests}
 use Rattle.std.proofs.lemmas.List.Elements.{All-from_recursion}
-use Rattle.std.specs.List.{All, AllByRecursion, list_all, flat_map}
+use Rattle.std.specs.List.{All, AllByRecursion, list_all, flat_map, join_by, zip}
 use Rattle.std.specs.Char.{is_ascii_control, is_ascii_lowercase}
-use Rattle.std.specs.Fmt.{digit_glyph, digits_onto, digits, signed_decimal}
+use Rattle.std.specs.Fmt.{digit_glyph, digits_onto, digits, decimal, signed_decimal}
 use lib.Utf8.{encode}
-use Rattle.dets_term.specs.TermValue.{TermValue, integer, atom, tuple, nil, cons}
-use Rattle.term_text.specs.Printed.{is_name_character, is_plain_atom, is_reserved, is_unquoted, quoted_character, quoted_atom, printed_atom, printed, printed_elements, printed_after}
+use Rattle.dets_term.specs.TermValue.{TermValue, integer, atom, tuple, mapping, nil, cons, bits}
+use Rattle.term_text.specs.Printed.{is_name_character, is_plain_atom, is_reserved, is_unquoted, quoted_character, quoted_atom, printed_atom, number_of, octets, printed_segment, printed_bits, printed_pair, printed_map, printed, printed_elements, printed_after, printed_each}
 
 -- no byte is below 32
 abbrev NoneLow : List ℕ → Type 0
@@ -87,6 +87,55 @@ atom_not_low cs =
     (λ e. plain_not_low cs (and_parts (is_plain_atom cs) (not (is_reserved cs)) e).0)
     (λ _. (omega arith, NoneLow-append (flat_map quoted_character cs) (codes "'") (characters_not_low cs) (omega arith, tt)))
 
+-- ---- bit strings and maps
+
+segment_not_low : (bs : List Bool) → NoneLow (printed_segment bs)
+segment_not_low bs =
+    cond_both (length bs == 8) _ _ NoneLow (λ _. digits_not_low 10 false (number_of bs))
+    (λ _. NoneLow-append (decimal (number_of bs) ++ codes ":") (decimal (length bs))
+    (NoneLow-append (decimal (number_of bs)) (codes ":") (digits_not_low 10 false (number_of bs)) (omega arith, tt)) (digits_not_low 10 false (length bs)))
+
+-- parts none of which has a low byte, with commas between them
+rest_not_low : {X : Type 0} (f : X → List ℕ) (xs : List X) → AllByRecursion (λ x. NoneLow (f x)) xs → NoneLow (flat_map (λ x. codes "," ++ f x) xs)
+rest_not_low f [] h = tt
+rest_not_low f (x ∷ xs) h = (omega arith, NoneLow-append (f x) (flat_map (λ y. codes "," ++ f y) xs) h.0 (rest_not_low f xs h.1))
+
+joined_not_low : {X : Type 0} (f : X → List ℕ) (xs : List X) → AllByRecursion (λ x. NoneLow (f x)) xs → NoneLow (join_by f (codes ",") xs)
+joined_not_low f [] h = tt
+joined_not_low f (x ∷ xs) h = NoneLow-append (f x) (flat_map (λ y. codes "," ++ f y) xs) h.0 (rest_not_low f xs h.1)
+
+segments_not_low : (parts : List (List Bool)) → AllByRecursion (λ bs. NoneLow (printed_segment bs)) parts
+segments_not_low [] = tt
+segments_not_low (bs ∷ parts) = (segment_not_low bs, segments_not_low parts)
+
+bits_not_low : (bs : List Bool) → NoneLow (printed_bits bs)
+bits_not_low bs = (
+  omega arith,
+  (
+    omega arith,
+    NoneLow-append (join_by printed_segment (codes ",") (octets bs)) (codes ">>")
+        (joined_not_low printed_segment (octets bs) (segments_not_low (octets bs))) (omega arith, (omega arith, tt)),
+  ),
+)
+
+pairs_not_low : (ks vs : List (List ℕ)) → AllByRecursion NoneLow ks → AllByRecursion NoneLow vs → AllByRecursion (λ p. NoneLow (printed_pair p)) (zip ks vs)
+pairs_not_low [] vs g h = tt
+pairs_not_low (k ∷ ks) [] g h = tt
+pairs_not_low (k ∷ ks) (v ∷ vs) g h = (
+  NoneLow-append (k ++ codes "=>") v (NoneLow-append k (codes "=>") g.0 (omega arith, (omega arith, tt))) h.0,
+  pairs_not_low ks vs g.1 h.1,
+)
+
+map_not_low : (ks vs : List (List ℕ)) → AllByRecursion NoneLow ks → AllByRecursion NoneLow vs → NoneLow (printed_map ks vs)
+map_not_low ks vs g h = (
+  omega arith,
+  (
+    omega arith,
+    NoneLow-append (join_by printed_pair (codes ",") (zip ks vs)) (codes "}") (joined_not_low printed_pair (zip ks vs) (pairs_not_low ks vs g h))
+        (omega arith, tt),
+  ),
+)
+
 -- ---- terms
 
 mutual
@@ -94,23 +143,32 @@ mutual
   term_not_low (integer z) = integer_not_low z
   term_not_low (atom cs) = atom_not_low cs
   term_not_low (tuple parts) = (omega arith, elements_not_low (codes "}") parts (omega arith, tt))
+  term_not_low (mapping keys values) = map_not_low (printed_each keys) (printed_each values) (each_not_low keys) (each_not_low values)
   term_not_low nil = (omega arith, (omega arith, tt))
   term_not_low (cons first rest) = (omega arith, NoneLow-append (printed first) (printed_after (codes "]") rest) (term_not_low first) (after_not_low (codes "]") rest (omega arith, tt)))
+  term_not_low (bits bs) = bits_not_low bs
 
   elements_not_low : (end : List ℕ) (v : TermValue) → NoneLow end → NoneLow (printed_elements end v)
-  elements_not_low end (integer z) h = h
-  elements_not_low end (atom cs) h = h
-  elements_not_low end (tuple parts) h = h
-  elements_not_low end nil h = h
   elements_not_low end (cons first rest) h = NoneLow-append (printed first) (printed_after end rest) (term_not_low first) (after_not_low end rest h)
+  elements_not_low end other h = h
 
   after_not_low : (end : List ℕ) (v : TermValue) → NoneLow end → NoneLow (printed_after end v)
   after_not_low end (integer z) h = (omega arith, NoneLow-append (signed_decimal z) end (integer_not_low z) h)
   after_not_low end (atom cs) h = (omega arith, NoneLow-append (printed_atom cs) end (atom_not_low cs) h)
   after_not_low end (tuple parts) h =
       (omega arith, (omega arith, NoneLow-append (printed_elements (codes "}") parts) end (elements_not_low (codes "}") parts (omega arith, tt)) h))
+  after_not_low end (mapping keys values) h = (
+    omega arith,
+    NoneLow-append (printed_map (printed_each keys) (printed_each values)) end
+        (map_not_low (printed_each keys) (printed_each values) (each_not_low keys) (each_not_low values)) h,
+  )
   after_not_low end nil h = h
   after_not_low end (cons first rest) h = (omega arith, NoneLow-append (printed first) (printed_after end rest) (term_not_low first) (after_not_low end rest h))
+  after_not_low end (bits bs) h = (omega arith, NoneLow-append (printed_bits bs) end (bits_not_low bs) h)
+
+  each_not_low : (v : TermValue) → AllByRecursion NoneLow (printed_each v)
+  each_not_low (cons first rest) = (term_not_low first, each_not_low rest)
+  each_not_low other = tt
 
 pub printed_not_low : (t : TermValue) → All (λ x. 32 ≤ x) (printed t)
 printed_not_low t = All-from_recursion (λ x. 32 ≤ x) (printed t) (term_not_low t)

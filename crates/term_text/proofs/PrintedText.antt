@@ -5,7 +5,7 @@ use Rattle.std.proofs.lemmas.Bool.Decides.{nat_tests}
 use Rattle.std.proofs.lemmas.Fmt.{decimal_by_steps_wide}
 use Rattle.std.specs.Char.{is_ascii_digit}
 use Rattle.std.specs.Fmt.{decimal, signed_decimal}
-use Rattle.dets_term.specs.TermValue.{TermValue, integer, atom, tuple, nil, cons, depth}
+use Rattle.dets_term.specs.TermValue.{TermValue, integer, atom, tuple, mapping, nil, cons, bits, depth}
 use Rattle.dets_term.specs.IsTerm.{IsProper}
 use Rattle.term_text.specs.declared.nest.Bracket.TheVariants.{Tuple, List as Square}
 use Rattle.term_text.specs.Printed.{is_name_character, is_plain_atom, is_reserved, is_unquoted, quoted_atom, printed_atom, printed, printed_elements, printed_after}
@@ -92,11 +92,9 @@ Spells-both ts us first after r rest e h =
 
 -- a comma or the closing bracket follows an element
 apart_after : (end : List ℕ) (v : TermValue) (r : List ℕ) → IsProper v → IsApartFromTerms (end ++ r) → IsApartFromTerms (printed_after end v ++ r)
-apart_after end (integer z) r p h = absurd p
-apart_after end (atom cs) r p h = absurd p
-apart_after end (tuple parts) r p h = absurd p
 apart_after end nil r p h = h
 apart_after end (cons first rest) r p h = refl
+apart_after end other r p h = absurd p
 
 -- elements and their closing bracket are spelled
 closed : (token : Token) (ts : List Token) (x : ℕ) (bytes rest : List ℕ) → Spells ts bytes (x ∷ rest) → Spelled token (x ∷ []) → IsApart token rest → Spells (ts ++ token ∷ []) bytes rest
@@ -110,6 +108,7 @@ mutual
       Spells-cons (opening Tuple) (tokens_of_elements parts ++ closing Tuple ∷ []) (123 ∷ []) (printed_elements (125 ∷ []) parts ++ r) r refl tt
       (closed (closing Tuple) (tokens_of_elements parts) 125 (printed_elements (125 ∷ []) parts ++ r) r
       (elements_spelled (125 ∷ []) parts r b.0 b.1 p refl) refl tt)
+  spelled (mapping keys values) r b p a = absurd b
   spelled nil r b p a =
       Spells-cons (opening Square) (closing Square ∷ []) (91 ∷ []) (93 ∷ r) r refl tt
       (Spells-cons (closing Square) [] (93 ∷ []) r r refl tt refl)
@@ -118,27 +117,24 @@ mutual
       (Spells-both (tokens_of first) (tokens_after rest ++ closing Square ∷ []) (printed first) (printed_after (93 ∷ []) rest) r r
       (spelled first (printed_after (93 ∷ []) rest ++ r) b.0 p.0 (apart_after (93 ∷ []) rest r b.1 refl))
       (closed (closing Square) (tokens_after rest) 93 (printed_after (93 ∷ []) rest ++ r) r (after_spelled (93 ∷ []) rest r b.1 b.2 p.1 refl) refl tt))
+  spelled (bits bs) r b p a = absurd b
 
   elements_spelled : (end : List ℕ) (v : TermValue) (r : List ℕ) → IsProper v → IsBuilt v → IsPlain v → IsApartFromTerms (end ++ r) → Spells (tokens_of_elements v) (printed_elements end v ++ r) (end ++ r)
-  elements_spelled end (integer z) r q b p a = absurd q
-  elements_spelled end (atom cs) r q b p a = absurd q
-  elements_spelled end (tuple parts) r q b p a = absurd q
   elements_spelled end nil r q b p a = refl
   elements_spelled end (cons first rest) r q b p a =
       Spells-both (tokens_of first) (tokens_after rest) (printed first) (printed_after end rest) r (end ++ r)
       (spelled first (printed_after end rest ++ r) b.0 p.0 (apart_after end rest r b.1 a))
       (after_spelled end rest r b.1 b.2 p.1 a)
+  elements_spelled end other r q b p a = absurd q
 
   after_spelled : (end : List ℕ) (v : TermValue) (r : List ℕ) → IsProper v → IsBuilt v → IsPlain v → IsApartFromTerms (end ++ r) → Spells (tokens_after v) (printed_after end v ++ r) (end ++ r)
-  after_spelled end (integer z) r q b p a = absurd q
-  after_spelled end (atom cs) r q b p a = absurd q
-  after_spelled end (tuple parts) r q b p a = absurd q
   after_spelled end nil r q b p a = refl
   after_spelled end (cons first rest) r q b p a =
       Spells-cons comma (tokens_of first ++ tokens_after rest) (44 ∷ []) ((printed first ++ printed_after end rest) ++ r) (end ++ r) refl tt
       (Spells-both (tokens_of first) (tokens_after rest) (printed first) (printed_after end rest) r (end ++ r)
       (spelled first (printed_after end rest ++ r) b.0 p.0 (apart_after end rest r b.1 a))
       (after_spelled end rest r b.1 b.2 p.1 a))
+  after_spelled end other r q b p a = absurd q
 
 -- the printed form and a full stop are a sentence
 pub printed_sentence : (t : TermValue) (rest : List ℕ) → depth t ≤ 256 → IsBuilt t → IsPlain t → IsSentence t (printed t ++ 46 ∷ rest) rest

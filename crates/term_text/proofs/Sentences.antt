@@ -1,6 +1,6 @@
 -- The machine reads each sentence up to its full stop and no further, so that some bytes have one reading at most.
 use Rattle.std.proofs.Common.{◌≡◌, ℕ, ◌≤◌, ◌<◌, List, [], ◌∷◌, ◌++◌, length, length-append, Option, Some, None, option_and_then, refl, ap, ◌∙◌, sym, subst, append_assoc, append-nil, arith}
-use Rattle.dets_term.specs.TermValue.{TermValue, integer, atom, tuple, nil, cons, depth}
+use Rattle.dets_term.specs.TermValue.{TermValue, integer, atom, tuple, mapping, nil, cons, bits, depth}
 use Rattle.term_text.specs.declared.nest.Bracket.TheVariants.{Tuple, List as Square}
 use Rattle.term_text.specs.Token.{Token, opening, closing, comma, full_stop, name, number, tokens_of, tokens_of_elements, tokens_after, IsBuilt, IsApart, Fronts, Spells, IsSentence}
 use Rattle.term_text.specs.Machine.{want, whole, stopped, NestState, take_tokens, no_token, ReaderState, first_state, step, run}
@@ -29,26 +29,22 @@ mutual
   within (integer z) b = (b, tt)
   within (atom cs) b = (b, tt)
   within (tuple parts) b = (tt, within-append (tokens_of_elements parts) (closing Tuple ∷ []) (within_elements parts b.1) (tt, tt))
+  within (mapping keys values) b = absurd b
   within nil b = (tt, (tt, tt))
   within (cons first rest) b = (
     tt,
     within-append (tokens_of first) (tokens_after rest ++ closing Square ∷ []) (within first b.0)
         (within-append (tokens_after rest) (closing Square ∷ []) (within_after rest b.2) (tt, tt)),
   )
+  within (bits bs) b = absurd b
 
   within_elements : (v : TermValue) → IsBuilt v → AreWithin (tokens_of_elements v)
-  within_elements (integer z) b = tt
-  within_elements (atom cs) b = tt
-  within_elements (tuple parts) b = tt
-  within_elements nil b = tt
   within_elements (cons first rest) b = within-append (tokens_of first) (tokens_after rest) (within first b.0) (within_after rest b.2)
+  within_elements other b = tt
 
   within_after : (v : TermValue) → IsBuilt v → AreWithin (tokens_after v)
-  within_after (integer z) b = tt
-  within_after (atom cs) b = tt
-  within_after (tuple parts) b = tt
-  within_after nil b = tt
   within_after (cons first rest) b = (tt, within-append (tokens_of first) (tokens_after rest) (within first b.0) (within_after rest b.2))
+  within_after other b = tt
 
 -- ---- the front of a text
 

@@ -1,7 +1,7 @@
 -- The machine takes the tokens of a term as that term.
 use Rattle.std.proofs.Common.{◌≡◌, ℕ, ℤ, suc, ◌+◌, ◌≤◌, ◌<◌, true, cond, max, List, [], ◌∷◌, ◌++◌, length, Some, None, option_and_then, refl, ap, ◌∙◌, sym, append_assoc, append-nil, arith}
 use Rattle.std.proofs.lemmas.Bool.{lt-ltb}
-use Rattle.dets_term.specs.TermValue.{TermValue, integer, atom, tuple, nil, cons, chain, elements, is_list, parts_depth, depth}
+use Rattle.dets_term.specs.TermValue.{TermValue, integer, atom, tuple, mapping, nil, cons, bits, chain, elements, is_list, parts_depth, depth}
 use Rattle.dets_term.specs.IsTerm.{IsProper}
 use Rattle.term_text.specs.declared.nest.Bracket.{Bracket}
 use Rattle.term_text.specs.declared.nest.Bracket.TheVariants.{Tuple, List as Square}
@@ -11,18 +11,14 @@ use Rattle.term_text.specs.Machine.{Place, want, opened, after, Frame, NestState
 -- ---- proper lists
 
 is_list-proper : (v : TermValue) → IsProper v → is_list v ≡ true
-is_list-proper (integer z) p = absurd p
-is_list-proper (atom cs) p = absurd p
-is_list-proper (tuple t) p = absurd p
 is_list-proper nil p = refl
 is_list-proper (cons first rest) p = refl
+is_list-proper other p = absurd p
 
 chain-elements : (v : TermValue) → IsProper v → chain (elements v) nil ≡ v
-chain-elements (integer z) p = absurd p
-chain-elements (atom cs) p = absurd p
-chain-elements (tuple t) p = absurd p
 chain-elements nil p = refl
 chain-elements (cons first rest) p = ap (cons first) (chain-elements rest p)
+chain-elements other p = absurd p
 
 depth-rest : (first rest : TermValue) → IsProper rest → parts_depth rest ≤ parts_depth (cons first rest)
 depth-rest first rest p =
@@ -128,22 +124,20 @@ mutual
   taken (integer z) b = taken-integer z
   taken (atom cs) b = taken-atom cs
   taken (tuple parts) b = taken-tuple parts b.0 (taken_elements parts b.0 b.1)
+  taken (mapping keys values) b = absurd b
   taken nil b = taken-nil
   taken (cons first rest) b = taken-cons first rest b.1 (taken_elements-cons first rest b.1 (taken first b.0) (taken_after rest b.1 b.2))
+  taken (bits bs) b = absurd b
 
   taken_elements : (v : TermValue) → IsProper v → IsBuilt v → TakenElements v
-  taken_elements (integer z) p b = absurd p
-  taken_elements (atom cs) p b = absurd p
-  taken_elements (tuple parts) p b = absurd p
   taken_elements nil p b = taken_elements-nil
   taken_elements (cons first rest) p b = taken_elements-cons first rest p (taken first b.0) (taken_after rest p b.2)
+  taken_elements other p b = absurd p
 
   taken_after : (v : TermValue) → IsProper v → IsBuilt v → TakenAfter v
-  taken_after (integer z) p b = absurd p
-  taken_after (atom cs) p b = absurd p
-  taken_after (tuple parts) p b = absurd p
   taken_after nil p b = taken_after-nil
   taken_after (cons first rest) p b = taken_after-cons first rest p (taken first b.0) (taken_after rest p b.2)
+  taken_after other p b = absurd p
 
 -- the tokens of a term complete it
 pub take_term : (t : TermValue) (fs : List Frame) (place : Place) (ts : List Token) → wants place ≡ true → IsBuilt t → depth t + length fs ≤ 256 → take_tokens (record { frames = fs; place = place }) (tokens_of t ++ ts) ≡ take_tokens (complete fs t) ts

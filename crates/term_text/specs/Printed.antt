@@ -1,11 +1,11 @@
 -- The printed form of a term, on one line with no white space. It is this project's own form, after the
 -- term syntax of the Erlang reference manual.
-use Rattle.std.specs.Prelude.{ℕ, Bool, true, false, ◌==◌, ◌&&◌, ◌||◌, not, if◌then◌else◌, List, [], ◌∷◌, ◌++◌, codes, encode_utf8}
-use Rattle.std.specs.List.{list_any, list_all, flat_map}
+use Rattle.std.specs.Prelude.{ℕ, ◌+◌, ◌^◌, Bool, true, false, cond, ◌==◌, ◌&&◌, ◌||◌, not, if◌then◌else◌, List, [], ◌∷◌, ◌++◌, length, codes, encode_utf8}
+use Rattle.std.specs.List.{list_any, list_all, flat_map, join_by, zip}
 use Rattle.std.specs.Char.{is_ascii_lowercase, is_ascii_alphanumeric, is_ascii_control}
 use Rattle.std.specs.Str.{bytes_eq}
-use Rattle.std.specs.Fmt.{digits, signed_decimal}
-use Rattle.dets_term.specs.TermValue.{TermValue, integer, atom, tuple, nil, cons}
+use Rattle.std.specs.Fmt.{digits, decimal, signed_decimal}
+use Rattle.dets_term.specs.TermValue.{TermValue, integer, atom, tuple, mapping, nil, cons, bits}
 
 -- a letter from a to z or A to Z, a digit, `_` or `@`
 abbrev pub is_name_character : ℕ → Bool
@@ -51,28 +51,63 @@ quoted_atom name = codes "'" ++ flat_map quoted_character name ++ codes "'"
 abbrev pub printed_atom : List ℕ → List ℕ
 printed_atom name = if is_unquoted name then name else quoted_atom name
 
+-- the number that some bits spell, the highest first
+abbrev pub number_of : List Bool → ℕ
+number_of [] = 0
+number_of (b ∷ bs) = cond b (2 ^ length bs) 0 + number_of bs
+
+-- some bits by eights; the last of these parts has 1 to 8
+abbrev pub octets : List Bool → List (List Bool)
+octets [] = []
+octets (a ∷ b ∷ c ∷ d ∷ e ∷ f ∷ g ∷ h ∷ bs) = (a ∷ b ∷ c ∷ d ∷ e ∷ f ∷ g ∷ h ∷ []) ∷ octets bs
+octets bs = bs ∷ []
+
+-- a part of a bit string: its number, and behind a colon how many bits it has, where these are not eight
+abbrev pub printed_segment : List Bool → List ℕ
+printed_segment bs = if length bs == 8 then decimal (number_of bs) else decimal (number_of bs) ++ codes ":" ++ decimal (length bs)
+
+-- A bit string, after the bit syntax of the Erlang reference manual: its bytes by their numbers, with commas between
+-- them, and at the end what is left of a byte.
+abbrev pub printed_bits : List Bool → List ℕ
+printed_bits bs = codes "<<" ++ join_by printed_segment (codes ",") (octets bs) ++ codes ">>"
+
+-- a key and its value
+abbrev pub printed_pair : List ℕ × List ℕ → List ℕ
+printed_pair pair = pair.0 ++ codes "=>" ++ pair.1
+
+-- a map by the printed forms of its keys and of its values, in their order
+abbrev pub printed_map : List (List ℕ) → List (List ℕ) → List ℕ
+printed_map keys values = codes "#{" ++ join_by printed_pair (codes ",") (zip keys values) ++ codes "}"
+
 abbrev mutual
   -- A term. An integer is written in decimal, a list in brackets and a tuple in braces, with commas between
-  -- their elements. What an improper list ends in stands behind a bar.
+  -- their elements. What an improper list ends in stands behind a bar. The keys of a map ascend, as they do in
+  -- its value.
   pub printed : TermValue → List ℕ
   printed (integer z) = signed_decimal z
   printed (atom name) = printed_atom name
   printed (tuple parts) = codes "{" ++ printed_elements (codes "}") parts
+  printed (mapping keys values) = printed_map (printed_each keys) (printed_each values)
   printed nil = codes "[]"
   printed (cons first rest) = codes "[" ++ printed first ++ printed_after (codes "]") rest
+  printed (bits bs) = printed_bits bs
 
   -- The elements of a list, up to and with the bracket that closes it. A value that is no list has none.
   pub printed_elements : List ℕ → TermValue → List ℕ
-  printed_elements closing (integer z) = closing
-  printed_elements closing (atom name) = closing
-  printed_elements closing (tuple parts) = closing
-  printed_elements closing nil = closing
   printed_elements closing (cons first rest) = printed first ++ printed_after closing rest
+  printed_elements closing other = closing
 
   -- what follows an element of a list, up to and with the bracket that closes it
   pub printed_after : List ℕ → TermValue → List ℕ
   printed_after closing (integer z) = codes "|" ++ signed_decimal z ++ closing
   printed_after closing (atom name) = codes "|" ++ printed_atom name ++ closing
   printed_after closing (tuple parts) = codes "|" ++ codes "{" ++ printed_elements (codes "}") parts ++ closing
+  printed_after closing (mapping keys values) = codes "|" ++ printed_map (printed_each keys) (printed_each values) ++ closing
   printed_after closing nil = closing
   printed_after closing (cons first rest) = codes "," ++ printed first ++ printed_after closing rest
+  printed_after closing (bits bs) = codes "|" ++ printed_bits bs ++ closing
+
+  -- the printed forms of the elements of a list
+  pub printed_each : TermValue → List (List ℕ)
+  printed_each (cons first rest) = printed first ∷ printed_each rest
+  printed_each other = []

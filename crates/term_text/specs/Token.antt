@@ -2,7 +2,7 @@
 -- between them. It is this project's own, after the term syntax of the Erlang reference manual.
 use Rattle.std.specs.Prelude.{◌≡◌, ℕ, ℤ, pos, negsuc, int_le, ◌^◌, ◌-◌, ◌<◌, ◌≤◌, ◌+ℤ◌, ◌*ℤ◌, ◌-ℤ◌, Bool, true, false, cond, ◌&&◌, ◌||◌, ◌==◌, nat_le, List, [], ◌∷◌, ◌++◌, length, ◌⊎◌}
 use Rattle.std.specs.Char.{is_ascii_digit}
-use Rattle.dets_term.specs.TermValue.{TermValue, integer, atom, tuple, nil, cons, depth}
+use Rattle.dets_term.specs.TermValue.{TermValue, integer, atom, tuple, mapping, nil, cons, bits, depth}
 use Rattle.dets_term.specs.IsTerm.{IsProper}
 use Rattle.term_text.specs.declared.nest.Bracket.{Bracket}
 use Rattle.term_text.specs.declared.nest.Bracket.TheVariants.{Tuple, List as Square}
@@ -17,42 +17,40 @@ pub data Token : Type 0 where
   number : ℤ → Token
 
 abbrev mutual
-  -- the tokens of a term
+  -- the tokens of a term, none for a kind that is not built
   pub tokens_of : TermValue → List Token
   tokens_of (integer z) = number z ∷ []
   tokens_of (atom characters) = name characters ∷ []
   tokens_of (tuple parts) = opening Tuple ∷ (tokens_of_elements parts ++ closing Tuple ∷ [])
+  tokens_of (mapping keys values) = []
   tokens_of nil = opening Square ∷ closing Square ∷ []
   tokens_of (cons first rest) = opening Square ∷ (tokens_of first ++ (tokens_after rest ++ closing Square ∷ []))
+  tokens_of (bits bs) = []
 
   -- those of the elements of a list, with commas between them
   pub tokens_of_elements : TermValue → List Token
-  tokens_of_elements (integer z) = []
-  tokens_of_elements (atom characters) = []
-  tokens_of_elements (tuple parts) = []
-  tokens_of_elements nil = []
   tokens_of_elements (cons first rest) = tokens_of first ++ tokens_after rest
+  tokens_of_elements other = []
 
   -- those of the elements behind the first
   pub tokens_after : TermValue → List Token
-  tokens_after (integer z) = []
-  tokens_after (atom characters) = []
-  tokens_after (tuple parts) = []
-  tokens_after nil = []
   tokens_after (cons first rest) = comma ∷ (tokens_of first ++ tokens_after rest)
+  tokens_after other = []
 
 -- whether 128 bits hold an integer
 abbrev pub fits : ℤ → Bool
 fits z = int_le (negsuc (2 ^ 127 - 1)) z && int_le z (pos (2 ^ 127 - 1))
 
--- A value whose text is built, within the limits on integers and atoms: an improper list has none so far. A text
--- has too few bytes for too many parts.
+-- A value whose text is built, within the limits on integers and atoms: a map, an improper list and a bit string have
+-- none so far. A text has too few bytes for too many parts.
 abbrev pub IsBuilt : TermValue → Type 0
 IsBuilt (integer z) = fits z ≡ true
 IsBuilt (atom characters) = length characters ≤ 255
 IsBuilt (tuple parts) = IsProper parts × IsBuilt parts
+IsBuilt (mapping keys values) = ⊥
 IsBuilt nil = Unit {0}
 IsBuilt (cons first rest) = IsBuilt first × IsProper rest × IsBuilt rest
+IsBuilt (bits bs) = ⊥
 
 -- white space: the bytes 9 to 13 and 32
 abbrev pub is_white : ℕ → Bool

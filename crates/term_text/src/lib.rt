@@ -22,6 +22,9 @@ mod integer;
 mod laws;
 mod name;
 mod nest;
+mod print_bits;
+#[cfg(test)]
+mod print_tests;
 mod printed_laws;
 mod printing;
 mod reader;

@@ -21,7 +21,6 @@ pub fn printed_form_has_no_byte_below_32()
 {}
 
 /// Two such terms with one printed form are equal.
-#[tactic(auto, using(crate::proofs::PrintedText::one_printed))]
 pub fn printed_form_is_of_one_term()
     ensures { (t u : TermValue) → depth t ≤ 256 → IsBuilt t → IsPlain t → depth u ≤ 256 → IsBuilt u → IsPlain u
         → printed t ≡ printed u → t ≡ u }

@@ -2,11 +2,12 @@ ghost use Rattle.std.specs.Prelude.{◌≡◌, ◌<◌, ◌∷◌, ◌++◌, [],
 ghost use Rattle.std.specs.Fmt.{digits, digit_glyph, signed_decimal};
 ghost use Rattle.std.specs.Str.{chars, bytes_eq};
 ghost use Rattle.std.specs.List.{list_any};
-ghost use Rattle.dets_term.specs.TermValue.{nil, chain};
+ghost use Rattle.dets_term.specs.TermValue.{nil, chain, map_of};
 ghost use Rattle.term_text.specs.Printed.{is_name_character, is_plain_atom, is_reserved, quoted_character, quoted_atom, printed_atom, printed, printed_elements};
 
 use crate::Memory;
-use dets_term::{ByteList, Node, Term, TermList};
+use crate::print_bits::print_bits;
+use dets_term::{ByteList, Node, PairList, Term, TermList};
 use itoa::Buffer;
 use std::alloc::Global;
 
@@ -37,14 +38,41 @@ fn print_term(out: &mut ByteList, term: &Term) -> Result<(), Memory>
             out.push(b'{')?;
             print_elements(out, parts, b'}')
         }
+        Node::Map(pairs) => print_map(out, pairs),
         Node::List(parts) => {
             out.push(b'[')?;
             print_elements(out, parts, b']')
         }
+        Node::Improper(parts, tail) => {
+            out.push(b'[')?;
+            print_elements(out, parts, b'|')?;
+            print_term(out, tail)?;
+            out.push(b']')
+        }
+        Node::Bits(bytes, used) => print_bits(out, bytes.as_slice(), *used),
     }
 }
 
-/// The elements of a list or a tuple and its closing bracket.
+/// The pairs of a map, whose keys ascend.
+#[cycle(print)]
+fn print_map(out: &mut ByteList, pairs: &PairList) -> Result<(), Memory>
+    ensures { OnOk result (out.new ≡ out.old ++ printed (map_of pairs.now)) }
+{
+    out.extend_from_slice(b"#{")?;
+    for place in 0..pairs.len() {
+        if place > 0 {
+            out.push(b',')?;
+        }
+        if let Some(pair) = pairs.get(place) {
+            print_term(out, &pair.0)?;
+            out.extend_from_slice(b"=>")?;
+            print_term(out, &pair.1)?;
+        }
+    }
+    out.push(b'}')
+}
+
+/// The elements of a list or a tuple, and the byte behind them: a closing bracket or the bar of an improper list.
 #[cycle(print)]
 fn print_elements(out: &mut ByteList, parts: &TermList, closing: u8) -> Result<(), Memory>
     ensures { OnOk result (out.new ≡ out.old ++ printed_elements (closing ∷ []) (chain parts.now nil)) }
@@ -161,70 +189,5 @@ fn hexadecimal_digit(value: u8) -> u8
         b'0' + value
     } else {
         b'A' + (value - 10)
-    }
-}
-
-#[cfg(test)]
-mod tests {
-    use super::print;
-    use dets_term::{Term, TermFault, TermList};
-    use std::alloc::Global;
-    use std::test::Fail;
-
-    fn pair(alloc: Global) -> Result<Term, TermFault> {
-        let mut parts = TermList::new(alloc);
-        parts.push(Term::atom(alloc, "k")?)?;
-        parts.push(Term::int(1))?;
-        Term::tuple(parts)
-    }
-
-    #[test]
-    fn integers_lists_and_tuples(rt: HostRuntime) -> Result<(), Fail> {
-        let alloc = rt.alloc();
-        let mut pairs = TermList::new(alloc);
-        pairs.push(pair(alloc)?)?;
-        pairs.push(Term::list(TermList::new(alloc))?)?;
-        let printed = [
-            (Term::int(0), "0"),
-            (
-                Term::int(i128::MIN),
-                "-170141183460469231731687303715884105728",
-            ),
-            (pair(alloc)?, "{k,1}"),
-            (Term::list(TermList::new(alloc))?, "[]"),
-            (Term::tuple(TermList::new(alloc))?, "{}"),
-            (Term::list(pairs)?, "[{k,1},[]]"),
-        ];
-        for (term, text) in &printed {
-            assert_eq!(rt; print(alloc, term)?.as_slice(), text.as_bytes());
-        }
-        Ok(())
-    }
-
-    #[test]
-    fn atoms(rt: HostRuntime) -> Result<(), Fail> {
-        let printed = [
-            ("k", "k"),
-            ("aZ9_@", "aZ9_@"),
-            ("end", "'end'"),
-            ("ending", "ending"),
-            ("Hello World", "'Hello World'"),
-            ("it's\\", "'it\\'s\\\\'"),
-            (
-                "a\0\n\u{1F}\u{7F}\u{80}",
-                "'a\\x{0}\\x{A}\\x{1F}\\x{7F}\u{80}'",
-            ),
-            ("ä", "'ä'"),
-            ("", "''"),
-        ];
-        for (name, text) in printed {
-            let term = Term::atom(rt.alloc(), name)?;
-            assert_eq!(rt;
-                print(rt.alloc(), &term)?.as_slice(),
-                text.as_bytes(),
-                "{name:?}"
-            );
-        }
-        Ok(())
     }
 }

@@ -1,6 +1,7 @@
 //! Worked rows of the definitions, as contracts of functions that do nothing.
 ghost use Rattle.std.specs.Prelude.{◌≡◌, ℕ, ◌-◌, ◌^◌, List, [], ◌∷◌, ◌++◌, map, replicate, negsuc, codes};
-ghost use Rattle.dets_term.specs.TermValue.{TermValue, integer, atom, nil, chain};
+ghost use Rattle.dets_term.specs.TermValue.{TermValue, integer, atom, nil, bits, chain, map_of};
+ghost use Rattle.dets_term.specs.BitString.{bits_of};
 ghost use Rattle.dets_term.specs.Written.{word, number, tuple_of, list_of, pair, boxed};
 ghost use Rattle.term_text.specs.Printed.{printed, reserved_words};
 ghost use Rattle.term_text.specs.Token.{IsSentence};
@@ -68,6 +69,8 @@ pub fn lists_are_printed_in_brackets()
     ensures objects { printed (list_of (pair (word "k") (number 1) ∷ [])) ≡ codes "[{k,1}]" }
     ensures empty_parts { printed (list_of (nil ∷ tuple_of [] ∷ nil ∷ [])) ≡ codes "[[],{},[]]" }
     ensures improper { printed (chain (word "a" ∷ []) (word "b")) ≡ codes "[a|b]" }
+    ensures longer_improper { printed (chain (number 1 ∷ number 2 ∷ []) (tuple_of [])) ≡ codes "[1,2|{}]" }
+    ensures tail_that_is_improper { printed (chain (number 1 ∷ []) (chain (number 2 ∷ []) (number 3))) ≡ codes "[1,2|3]" }
 {}
 
 /// Tuples stand in braces.
@@ -77,6 +80,28 @@ pub fn tuples_are_printed_in_braces()
     ensures one_part { printed (tuple_of (number 7 ∷ [])) ≡ codes "{7}" }
     ensures reply { printed (pair (word "ok") (word "table")) ≡ codes "{ok,table}" }
     ensures nested { printed (pair (pair (word "user") (number 7)) (list_of (nil ∷ []))) ≡ codes "{{user,7},[[]]}" }
+{}
+
+/// A map has its keys in order, and its values behind arrows.
+#[tactic(auto, unfolding(crate::proofs::Computing::printing))]
+pub fn maps_are_printed_with_arrows()
+    ensures empty { printed (map_of []) ≡ codes "#{}" }
+    ensures one_pair { printed (map_of ((word "a", number 1) ∷ [])) ≡ codes "#{a=>1}" }
+    ensures two_pairs { printed (map_of ((number 1, word "b") ∷ (word "a", nil) ∷ [])) ≡ codes "#{1=>b,a=>[]}" }
+    ensures nested { printed (map_of ((map_of [], map_of ((word "k", number 1) ∷ [])) ∷ [])) ≡ codes "#{#{}=>#{k=>1}}" }
+    ensures tail { printed (chain (word "a" ∷ []) (map_of [])) ≡ codes "[a|#{}]" }
+    ensures element { printed (pair (map_of []) (word "a")) ≡ codes "{#{},a}" }
+{}
+
+/// A bit string has its bytes as numbers, and what is left of a byte with its number of bits.
+#[tactic(auto, unfolding(crate::proofs::Computing::printing))]
+pub fn bit_strings_are_printed_by_numbers()
+    ensures empty { printed (bits []) ≡ codes "<<>>" }
+    ensures bytes { printed (bits (bits_of (1 ∷ 255 ∷ []) 8)) ≡ codes "<<1,255>>" }
+    ensures four_bits { printed (bits (bits_of (240 ∷ []) 4)) ≡ codes "<<15:4>>" }
+    ensures byte_and_one_bit { printed (bits (bits_of (1 ∷ 128 ∷ []) 1)) ≡ codes "<<1,1:1>>" }
+    ensures zeros { printed (bits (bits_of (0 ∷ 0 ∷ []) 7)) ≡ codes "<<0,0:7>>" }
+    ensures tail { printed (chain (word "a" ∷ []) (bits [])) ≡ codes "[a|<<>>]" }
 {}
 
 /// The first session: each command's text, and what follows the first one.
