@@ -1,0 +1,10 @@
+-- The definitions of this crate, one file for each idea.
+--
+-- What bytes mean is said by formats. A format has three relations, which are the definition: the whole bytes of a
+-- value, the bytes that end too early, and the bytes that break a rule with their last one. Beside them it has a
+-- reading, the middle between the relations and the code: a function from a place in the bytes to the value and the
+-- place behind it, or to the fault. `Exact` says that the two agree.
+pub mod Format
+pub mod Exact
+pub mod Layout
+pub mod Spelling

@@ -1,0 +1,9 @@
+//! Terms in the External Term Format, both ways.
+//!
+//! Stands on `dets_term`, and on `bstr` for UTF-8.
+#![tactic(auto)]
+
+pub use fault::EtfFault;
+pub use std::alloc::AllocError as Memory;
+
+mod fault;
