@@ -1,8 +1,8 @@
 -- The reading of a format that is put together agrees with its relations where its parts' do.
-use Rattle.std.proofs.Common.{◌≡◌, ◌≢◌, ℕ, zero, suc, ◌+◌, Bool, true, false, cond, List, [], ◌∷◌, ◌++◌, length, length-append, Result, Ok, Err, ◌⊎◌, inl, inr, refl, ap, ◌∙◌, sym, subst, append_assoc, append-nil, arith}
+use Rattle.std.proofs.Common.{◌≡◌, ◌≢◌, ℕ, zero, suc, ◌+◌, Bool, true, false, List, [], ◌∷◌, ◌++◌, length, length-append, Ok, Err, inl, inr, refl, ap, ◌∙◌, sym, subst, append_assoc, arith}
 use Rattle.etf_codec.specs.declared.fault.EtfFault.{EtfFault}
 use Rattle.etf_codec.specs.declared.fault.EtfFault.TheVariants.{Short}
-use Rattle.etf_codec.specs.Format.{Place, Reading, Format, first_byte, byte, give, Joined, go_on, followed, judged, tested, framed, changed, either, times, refused}
+use Rattle.etf_codec.specs.Format.{Place, Reading, Format, first_byte, byte, give, go_on, followed, judged, tested, framed, changed, either, times, refused}
 use Rattle.etf_codec.specs.Exact.{Between, Begins, IsExact}
 
 -- one answer is of one value and one place
@@ -63,7 +63,6 @@ give-exact {A} value = record {
 -- ---- one behind the other
 
 module _ {A B : Type 0} (F : Format A) (G : A → Format B) (f : IsExact F) (g : (x : A) → IsExact (G x)) where
-
   -- how the second reads behind the first
   abbrev behind_first : ℕ → A → Place → Reading B
   behind_first term x behind = (G x).read term behind
@@ -153,7 +152,6 @@ changed-exact F f e = followed-exact F (λ x. give (f x)) e (λ x. give-exact (f
 -- ---- a test
 
 module _ {A : Type 0} (F : Format A) (test : A → Bool) (fault : ℕ → A → EtfFault) (f : IsExact F) (g : (term : ℕ) (x : A) → test x ≡ false → fault term x ≢ Short) where
-
   abbrev judge : ℕ → A → Place → Reading A
   judge term x behind = judged (test x) (fault term x) x behind
 

@@ -1,5 +1,5 @@
 -- The reading of a spelling agrees with its relations.
-use Rattle.std.proofs.Common.{◌≡◌, ◌≢◌, ℕ, zero, suc, ◌+◌, ◌*◌, pos, Bool, true, false, cond, not, ◌==◌, nat_le, List, [], ◌∷◌, ◌++◌}
+use Rattle.std.proofs.Common.{◌≢◌, ℕ, zero, suc, ◌+◌, ◌*◌, pos, Bool, true, false, cond, not, ◌==◌, nat_le, List, [], ◌∷◌, ◌++◌}
 use Rattle.std.specs.List.{list_any}
 use Rattle.dets_term.specs.TermValue.{TermValue, integer, atom, tuple, nil, chain, map_of, bits}
 use Rattle.dets_term.specs.Order.{is_same}
@@ -7,7 +7,7 @@ use Rattle.dets_term.specs.Pairs.{keys, by_key}
 use Rattle.dets_term.specs.BitString.{bits_of}
 use Rattle.etf_codec.specs.declared.fault.EtfFault.{EtfFault}
 use Rattle.etf_codec.specs.declared.fault.EtfFault.TheVariants.{Short, NotVersion, Unsupported, Compressed, IntegerRange, BadAtom, BadBits, RepeatedKey, Depth}
-use Rattle.etf_codec.specs.Format.{Format, byte, give, followed, tested, framed, changed, either, times, refused}
+use Rattle.etf_codec.specs.Format.{Format, byte, followed, tested, framed, changed, either, times}
 use Rattle.etf_codec.specs.Exact.{IsExact}
 use Rattle.etf_codec.specs.Layout.{is_known, begins_tail, signed_32, signed, limit, characters, is_name, may_use, integers}
 use Rattle.etf_codec.specs.Spelling.{number_after, number, sized, may_have_parts, count_after, count, magnitude_after, big_integer, name, binary, bit_binary, string, tuple_of, no_tail, list_of, pairs_after, map_format, body, tag_of, term_with, outermost, spelling}
@@ -81,7 +81,6 @@ string-exact levels =
 -- ---- terms with parts
 
 module _ (part tail : Format TermValue) (p : IsExact part) (t : IsExact tail) where
-
   tuple_of-exact : (levels size : ℕ) → IsExact (tuple_of part levels size)
   tuple_of-exact levels size =
       followed-exact (count levels size) (λ n. changed (times n part) (λ ts. tuple (chain ts nil))) (count-exact levels size)
@@ -140,3 +139,20 @@ term_with-exact test fault other (suc levels) =
     (body-exact (term_with is_known (λ term x. Unsupported term x) levels) (term_with begins_tail (λ term x. Unsupported term x) levels)
     (term_with-exact is_known (λ term x. Unsupported term x) (λ term x e. cc) levels)
     (term_with-exact begins_tail (λ term x. Unsupported term x) (λ term x e. cc) levels) levels))
+
+-- ---- a spelling
+
+first_fault-other : (term x : ℕ) → cond (x == 80) (Compressed term) (Unsupported term x) ≢ Short
+first_fault-other term x = by_tag (x == 80)
+  where
+    by_tag : (b : Bool) → cond b (Compressed term) (Unsupported term x) ≢ Short
+    by_tag true e = cc
+    by_tag false e = cc
+
+outermost-exact : IsExact outermost
+outermost-exact = term_with-exact is_known (λ term x. cond (x == 80) (Compressed term) (Unsupported term x)) first_fault-other 256
+
+pub spelling-exact : IsExact spelling
+spelling-exact =
+    followed-exact (tag_of (λ x. x == 131) (λ term x. NotVersion term)) (λ x. outermost)
+    (tested_byte-exact (λ x. x == 131) (λ term x. NotVersion term) (λ term x e. cc)) (λ x. outermost-exact)
