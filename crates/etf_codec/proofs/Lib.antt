@@ -1,3 +1,4 @@
 -- Lemmas that several proofs share.
 pub mod Exactness
 pub mod SpellingExact
+pub mod Sharpness

@@ -6,5 +6,6 @@
 -- place behind it, or to the fault. `Exact` says that the two agree.
 pub mod Format
 pub mod Exact
+pub mod Sharp
 pub mod Layout
 pub mod Spelling
