@@ -2,3 +2,5 @@
 pub mod Exactness
 pub mod SpellingExact
 pub mod Sharpness
+pub mod SpellingSharp
+pub mod Fronts

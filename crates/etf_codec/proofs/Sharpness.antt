@@ -1,5 +1,5 @@
 -- A format that is put together is sharp where its parts are.
-use Rattle.std.proofs.Common.{◌≡◌, ◌≢◌, ℕ, zero, suc, ◌+◌, Bool, true, false, List, [], ◌∷◌, ◌++◌, ◌⊎◌, inl, inr, refl, ap, ◌∙◌, sym, append_assoc, append-nil, arith}
+use Rattle.std.proofs.Common.{◌≡◌, ◌≢◌, ℕ, zero, suc, Bool, true, false, List, [], ◌∷◌, ◌++◌, ◌⊎◌, inl, inr, refl, ap, ◌∙◌, sym, append_assoc, append-nil, arith}
 use Rattle.etf_codec.specs.declared.fault.EtfFault.{EtfFault}
 use Rattle.etf_codec.specs.Format.{Format, byte, give, followed, tested, framed, changed, either, times}
 use Rattle.etf_codec.specs.Sharp.{OneMore, IsSharp, HasBytes}
@@ -16,7 +16,6 @@ give-sharp value = record { break_sharp = λ term here bytes fault h. absurd h; 
 -- ---- one behind the other; the second only where it is read
 
 module _ {A B : Type 0} (F : Format A) (G : A → Format B) (f : IsSharp F) (g : (x : A) (front : List ℕ) → F.Whole x front → IsSharp (G x)) where
-
   in_first : (bytes : List ℕ) → OneMore F.Part bytes → OneMore (followed F G).Part bytes
   in_first bytes one = record { front = one.front; last = one.last; holds = inl one.holds; whole = one.whole }
 

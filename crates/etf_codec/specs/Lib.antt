@@ -9,3 +9,4 @@ pub mod Exact
 pub mod Sharp
 pub mod Layout
 pub mod Spelling
+pub mod Fronts

@@ -7,3 +7,4 @@ pub use fault::EtfFault;
 pub use std::alloc::AllocError as Memory;
 
 mod fault;
+pub mod laws;
