@@ -1,5 +1,5 @@
 -- What bytes begin with, by what reading them answers.
-use Rattle.std.proofs.Common.{◌≡◌, ◌≢◌, ℕ, ◌+◌, List, [], ◌∷◌, ◌++◌, length, Ok, Err, ◌⊎◌, inl, inr, refl, ap, ◌∙◌, sym, append-nil}
+use Rattle.std.proofs.Common.{◌≡◌, ◌≢◌, ℕ, ◌+◌, List, [], ◌∷◌, ◌++◌, length, Ok, Err, ◌⊎◌, inl, inr, refl, ap, ◌∙◌, sym, subst, append-nil}
 use Rattle.dets_term.specs.TermValue.{TermValue}
 use Rattle.etf_codec.specs.declared.fault.EtfFault.{EtfFault}
 use Rattle.etf_codec.specs.declared.fault.EtfFault.TheVariants.{Short}
@@ -7,9 +7,11 @@ use Rattle.etf_codec.specs.Format.{Place, Reading}
 use Rattle.etf_codec.specs.Sharp.{OneMore}
 use Rattle.etf_codec.specs.Spelling.{spelling, Spells, IsPart, IsBreak}
 use Rattle.etf_codec.specs.Fronts.{BeginsWithTerm, BeginsWithBreak}
+use Rattle.etf_codec.specs.Moved.{moved}
 use Rattle.etf_codec.proofs.Exactness.{same_answer}
 use Rattle.etf_codec.proofs.SpellingExact.{spelling-exact}
 use Rattle.etf_codec.proofs.SpellingSharp.{spelling-sharp}
+use Rattle.etf_codec.proofs.SpellingMoves.{spelling_moves}
 
 -- what reading bytes that begin at an offset answers
 abbrev pub reading : ℕ → List ℕ → Reading TermValue
@@ -91,10 +93,10 @@ pub last_breaks : (start : ℕ) (bytes : List ℕ) (fault : EtfFault) → IsBrea
 last_breaks start bytes fault b = spelling-sharp.break_sharp start start bytes fault b
 
 -- of two fronts of the same bytes the second is a front of the first, or the first one a front of the second without its last byte
-abbrev IsWithin : (front other : List ℕ) → Type 0
+abbrev pub IsWithin : (front other : List ℕ) → Type 0
 IsWithin front other = (k : ℕ) × (more : List ℕ) × (other ≡ front ++ (k ∷ more))
 
-fronts : (front rest other more : List ℕ) → front ++ rest ≡ other ++ more → (front ≡ other) ⊎ (IsWithin front other ⊎ IsWithin other front)
+pub fronts : (front rest other more : List ℕ) → front ++ rest ≡ other ++ more → (front ≡ other) ⊎ (IsWithin front other ⊎ IsWithin other front)
 fronts [] rest [] more e = inl refl
 fronts [] rest (y ∷ other) more e = inr (inl (y, other, refl))
 fronts (x ∷ front) rest [] more e = inr (inr (x, front, refl))
@@ -109,7 +111,7 @@ fronts (x ∷ front) rest (y ∷ other) more e =
     with_rest same (inr (inr (k, tail, e))) = inr (inr (k, tail, cc))
 
 -- what is within one more byte is within the others
-within_one_more : (front tail part : List ℕ) (k last : ℕ) → front ++ (k ∷ tail) ≡ part ++ last ∷ [] → (rest : List ℕ) × (part ≡ front ++ rest)
+pub within_one_more : (front tail part : List ℕ) (k last : ℕ) → front ++ (k ∷ tail) ≡ part ++ last ∷ [] → (rest : List ℕ) × (part ≡ front ++ rest)
 within_one_more [] tail part k last e = (part, refl)
 within_one_more (x ∷ front) tail [] k last e =
     let none : front ++ (k ∷ tail) ≡ [] = cc in absurd (not_none front none)
@@ -139,3 +141,19 @@ pub one_break : (start : ℕ) (front rest other more : List ℕ) (f g : EtfFault
 one_break start front rest other more f g b c e =
     let same : ◌≡◌ {A = Reading TermValue} (Err f) (Err g) = sym (break_read start front rest f b) ∙ ap (reading start) e ∙ break_read start other more g c in
     (same_break start front other f g b c (fronts front rest other more e), (let faults : f ≡ g = cc in faults))
+
+-- ---- breaks at another offset
+
+pub moved_break : (start n : ℕ) (bytes : List ℕ) (fault : EtfFault) → IsBreak start bytes fault → IsBreak (start + n) bytes (moved n fault)
+moved_break start n bytes fault b = spelling_moves.break_moves n start start bytes fault b
+
+-- what breaks a rule at one offset does so at each
+other_break : (start n : ℕ) (bytes : List ℕ) (fault : EtfFault) → IsBreak (start + n) bytes fault → OneOfThree start bytes → (f : EtfFault) × (fault ≡ moved n f) × IsBreak start bytes f
+other_break start n bytes fault b (inl term) = absurd (term_or_break (start + n) bytes term (fault, record { front = bytes; rest = []; holds = b; whole = sym (append-nil bytes) }))
+other_break start n bytes fault b (inr (inr part)) = absurd (break_or_part (start + n) bytes (fault, record { front = bytes; rest = []; holds = b; whole = sym (append-nil bytes) }) part)
+other_break start n bytes fault b (inr (inl (f, c))) =
+    let same = one_break (start + n) bytes [] c.front c.rest fault (moved n f) b (moved_break start n c.front f c.holds) (append-nil bytes ∙ c.whole) in
+    (f, same.1, subst (λ l. IsBreak start l f) (sym same.0) c.holds)
+
+pub break_moved : (start n : ℕ) (bytes : List ℕ) (fault : EtfFault) → IsBreak (start + n) bytes fault → (f : EtfFault) × (fault ≡ moved n f) × IsBreak start bytes f
+break_moved start n bytes fault b = other_break start n bytes fault b (one_of_three start bytes)

@@ -10,3 +10,4 @@ pub mod Sharp
 pub mod Layout
 pub mod Spelling
 pub mod Fronts
+pub mod Moved

@@ -1,7 +1,8 @@
 //! Laws of spellings, parts and breaks, as contracts of functions that do nothing.
-ghost use Rattle.std.specs.Prelude.{◌≡◌, ℕ, ◌⊎◌, List, [], ◌++◌};
+ghost use Rattle.std.specs.Prelude.{◌≡◌, ℕ, ◌+◌, ◌⊎◌, List, [], ◌++◌};
 ghost use Rattle.dets_term.specs.TermValue.{TermValue};
 ghost use Rattle.etf_codec.specs.declared.fault.EtfFault.{EtfFault};
+ghost use Rattle.etf_codec.specs.Moved.{moved};
 ghost use Rattle.etf_codec.specs.Sharp.{OneMore};
 ghost use Rattle.etf_codec.specs.Spelling.{Spells, IsPart, IsBreak};
 ghost use Rattle.etf_codec.specs.Fronts.{BeginsWithTerm, BeginsWithBreak};
@@ -38,4 +39,12 @@ pub fn bytes_have_at_most_one_break()
 /// The last byte of a break is the first to break a rule: without it the bytes are a part.
 pub fn the_last_byte_of_a_break_is_the_first_to_break_a_rule()
     ensures { (start : ℕ) (bytes : List ℕ) (fault : EtfFault) → IsBreak start bytes fault → OneMore IsPart bytes }
+{}
+
+/// A break stays one where the bytes begin at a greater offset, with its fault's offset greater by as much, and there
+/// are no others.
+pub fn breaks_move_with_the_offset_at_which_bytes_begin()
+    ensures kept { (start n : ℕ) (bytes : List ℕ) (fault : EtfFault) → IsBreak start bytes fault → IsBreak (start + n) bytes (moved n fault) }
+    ensures no_others { (start n : ℕ) (bytes : List ℕ) (fault : EtfFault) → IsBreak (start + n) bytes fault
+        → (f : EtfFault) × (fault ≡ moved n f) × IsBreak start bytes f }
 {}
