@@ -8,3 +8,4 @@ pub use std::alloc::AllocError as Memory;
 
 mod fault;
 pub mod laws;
+pub mod rows;
