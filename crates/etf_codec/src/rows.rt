@@ -112,3 +112,12 @@ pub fn values_may_break_a_rule()
     ensures nine_bits { IsBreak 0 (0x83 ∷ 0x4d ∷ 0x00 ∷ 0x00 ∷ 0x00 ∷ 0x01 ∷ 0x09 ∷ []) (BadBits 1) }
     ensures repeated_key { IsBreak 0 (0x83 ∷ 0x74 ∷ 0x00 ∷ 0x00 ∷ 0x00 ∷ 0x02 ∷ 0x61 ∷ 0x01 ∷ 0x61 ∷ 0x01 ∷ 0x61 ∷ 0x01 ∷ []) (RepeatedKey 10) }
 {}
+
+/// A term at level 256 has no parts. The length byte that gives it one breaks the rule.
+pub fn terms_go_down_to_level_256()
+    ensures no_part_at_the_last { IsPart (0x83 ∷ (concat (replicate 255 (0x68 ∷ 0x01 ∷ [])) ++ 0x6c ∷ 0x00 ∷ 0x00 ∷ 0x00 ∷ 0x00 ∷ [])) }
+    ensures deepest { Spells (boxed 255) (0x83 ∷ (concat (replicate 255 (0x6c ∷ 0x00 ∷ 0x00 ∷ 0x00 ∷ 0x01 ∷ [])) ++ 0x61 ∷ 0x00 ∷ replicate 255 0x6a)) }
+    ensures tuple { IsBreak 0 (0x83 ∷ concat (replicate 256 (0x68 ∷ 0x01 ∷ []))) (Depth 511) }
+    ensures list { IsBreak 0 (0x83 ∷ (concat (replicate 255 (0x68 ∷ 0x01 ∷ [])) ++ 0x6c ∷ 0x00 ∷ 0x00 ∷ 0x00 ∷ 0x01 ∷ [])) (Depth 511) }
+    ensures string { IsBreak 0 (0x83 ∷ (concat (replicate 255 (0x68 ∷ 0x01 ∷ [])) ++ 0x6b ∷ 0x01 ∷ [])) (Depth 511) }
+{}
