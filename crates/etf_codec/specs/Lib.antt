@@ -9,3 +9,4 @@ pub mod Exact
 pub mod Layout
 pub mod Spelling
 pub mod Skipping
+pub mod Machine

@@ -122,6 +122,13 @@ term_with test fault (suc levels) =
     framed (followed (tag_of test fault)
     (body (term_with is_known (λ term x. Unsupported term x) levels) (term_with begins_tail (λ term x. Unsupported term x) levels) levels))
 
+-- a term inside another one, and the tail of a list with elements
+abbrev pub part_at : ℕ → Format TermValue
+part_at levels = term_with is_known (λ term x. Unsupported term x) levels
+
+abbrev pub tail_at : ℕ → Format TermValue
+tail_at levels = term_with begins_tail (λ term x. Unsupported term x) levels
+
 -- the first term, behind 131: 80 begins a compressed one
 abbrev pub outermost : Format TermValue
 outermost = term_with is_known (λ term x. cond (x == 80) (Compressed term) (Unsupported term x)) 256
