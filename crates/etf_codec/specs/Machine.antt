@@ -4,7 +4,7 @@ use Rattle.std.specs.Prelude.{ℕ, suc, ◌-◌, cond, not, Bool, true, false, L
 use Rattle.std.specs.List.{list_any}
 use Rattle.dets_term.specs.TermValue.{TermValue, tuple, nil, chain, map_of}
 use Rattle.dets_term.specs.Order.{is_same}
-use Rattle.dets_term.specs.Pairs.{keys, by_key}
+use Rattle.dets_term.specs.Pairs.{keys, placed}
 use Rattle.etf_codec.specs.declared.fault.EtfFault.TheVariants.{RepeatedKey}
 use Rattle.etf_codec.specs.Format.{Format, Place, Reading, go_on, followed, changed, times}
 use Rattle.etf_codec.specs.Spelling.{part_at, tail_at, outermost, pairs_after}
@@ -33,7 +33,7 @@ levels_below begun = 256 - length begun
 
 -- the rest of a map, behind these pairs
 abbrev pub map_behind : ℕ → List (TermValue × TermValue) → ℕ → Format TermValue
-map_behind levels pairs n = changed (pairs_after (part_at levels) pairs n) (λ all. map_of (by_key all))
+map_behind levels pairs n = changed (pairs_after (part_at levels) pairs n) map_of
 
 -- What reading the rest of a begun term answers, behind its part t that begins at an offset. The parts have so many levels.
 abbrev pub rest_of : Frame → (levels start at : ℕ) → TermValue → Place → Reading TermValue
@@ -44,8 +44,8 @@ rest_of (item n ts) levels start at t place =
 rest_of (tail ts) levels start at t place = Ok (chain ts t, place)
 rest_of (key n pairs) levels start at k place =
     cond (not (list_any (is_same k) (keys pairs)))
-    ((followed (part_at levels) (λ v. map_behind levels (pairs ++ (k, v) ∷ []) n)).read start place) (Err (RepeatedKey at))
-rest_of (value n pairs k) levels start at v place = (map_behind levels (pairs ++ (k, v) ∷ []) n).read start place
+    ((followed (part_at levels) (λ v. map_behind levels (placed (k, v) pairs) n)).read start place) (Err (RepeatedKey at))
+rest_of (value n pairs k) levels start at v place = (map_behind levels (placed (k, v) pairs) n).read start place
 
 -- what reading answers behind a part, that begins at an offset, of the innermost begun term
 abbrev pub resume : List Begun → ℕ → TermValue → Place → Reading TermValue
