@@ -1,3 +1,6 @@
 -- Lemmas that several proofs share.
+pub mod Exactness
+pub mod SpellingExact
+pub mod SkippingExact
 pub mod GoOn
 pub mod Resuming
