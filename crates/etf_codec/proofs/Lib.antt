@@ -4,3 +4,5 @@ pub mod SpellingExact
 pub mod SkippingExact
 pub mod GoOn
 pub mod Resuming
+pub mod Bytes
+pub mod Reading

@@ -10,3 +10,4 @@ pub mod Layout
 pub mod Spelling
 pub mod Skipping
 pub mod Machine
+pub mod Reads

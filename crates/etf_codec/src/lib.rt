@@ -6,4 +6,5 @@
 pub use fault::EtfFault;
 pub use std::alloc::AllocError as Memory;
 
+mod cursor;
 mod fault;
