@@ -4,7 +4,7 @@ use Rattle.etf_codec.specs.declared.fault.EtfFault.TheVariants.{Unsupported, Dep
 use Rattle.etf_codec.specs.Format.{Format, byte, followed, framed, changed, either, times}
 use Rattle.etf_codec.specs.Exact.{IsExact}
 use Rattle.etf_codec.specs.Spelling.{number, tag_of}
-use Rattle.etf_codec.specs.Skipping.{has_layout, begins_node, gap, sized_gap, node, at_node, reference, parts, skip_body, skipped_at, skipped}
+use Rattle.etf_codec.specs.Skipping.{has_layout, begins_node, gap, sized_gap, node, at_node, reference, parts, counted, skip_body, skipped_at, skipped}
 use Rattle.etf_codec.proofs.Exactness.{followed-exact, changed-exact, framed-exact, either-exact, times-exact}
 use Rattle.etf_codec.proofs.SpellingExact.{number-exact, bytes-exact, tested_byte-exact}
 
@@ -28,10 +28,10 @@ reference-exact : (creation : ℕ) → IsExact (reference creation)
 reference-exact creation = followed-exact (number 2) (λ n. at_node (creation + 4 * n)) (number-exact 2) (λ n. at_node-exact (creation + 4 * n))
 
 module _ (part : Format (Unit {0})) (p : IsExact part) where
-  counted-exact : (size : ℕ) (f : ℕ → ℕ) → IsExact (followed (number size) (λ n. parts part (f n)))
-  counted-exact size f =
-      followed-exact (number size) (λ n. parts part (f n)) (number-exact size)
-      (λ n. changed-exact (times (f n) part) (λ ts. tt) (times-exact (f n) part p))
+  counted-exact : (size each extra : ℕ) → IsExact (counted part size each extra)
+  counted-exact size each extra =
+      followed-exact (number size) (λ n. parts part (each * n + extra)) (number-exact size)
+      (λ n. changed-exact (times (each * n + extra) part) (λ ts. tt) (times-exact (each * n + extra) part p))
 
   body-exact : (tag : ℕ) → IsExact (skip_body part tag)
   body-exact tag =
@@ -47,10 +47,10 @@ module _ (part : Format (Unit {0})) (p : IsExact part) where
     (either-exact (tag == 107) _ _ (sized_gap-exact 2 0)
     (either-exact (tag == 109) _ _ (sized_gap-exact 4 0)
     (either-exact (tag == 77) _ _ (sized_gap-exact 4 1)
-    (either-exact (tag == 104) _ _ (counted-exact 1 (λ n. n))
-    (either-exact (tag == 105) _ _ (counted-exact 4 (λ n. n))
-    (either-exact (tag == 108) _ _ (counted-exact 4 (λ n. n + 1))
-    (either-exact (tag == 116) _ _ (counted-exact 4 (λ n. 2 * n))
+    (either-exact (tag == 104) _ _ (counted-exact 1 1 0)
+    (either-exact (tag == 105) _ _ (counted-exact 4 1 0)
+    (either-exact (tag == 108) _ _ (counted-exact 4 1 1)
+    (either-exact (tag == 116) _ _ (counted-exact 4 2 0)
     (either-exact (tag == 103) _ _ (at_node-exact 9)
     (either-exact (tag == 88) _ _ (at_node-exact 12)
     (either-exact (tag == 102) _ _ (at_node-exact 5)

@@ -11,3 +11,4 @@ pub mod Spelling
 pub mod Skipping
 pub mod Machine
 pub mod Reads
+pub mod Answers

@@ -1,10 +1,11 @@
 -- Spellings that are passed over: more tags are known than those of this project's terms, and no range, text, bits or
 -- repeated key is judged. Layouts of the External Term Format chapter of the ERTS User's Guide.
-use Rattle.std.specs.Prelude.{ℕ, zero, suc, ◌+◌, ◌*◌, Bool, false, ◌||◌, ◌==◌, List, [], ◌∷◌}
+use Rattle.std.specs.Prelude.{ℕ, zero, suc, ◌+◌, ◌*◌, Bool, false, ◌||◌, ◌==◌, List, [], ◌∷◌, Result, Ok, Err, ◌≢◌}
 use Rattle.std.specs.List.{list_any}
 use Rattle.etf_codec.specs.declared.fault.EtfFault.{EtfFault}
-use Rattle.etf_codec.specs.declared.fault.EtfFault.TheVariants.{Unsupported, Depth}
+use Rattle.etf_codec.specs.declared.fault.EtfFault.TheVariants.{Unsupported, Depth, Memory}
 use Rattle.etf_codec.specs.Format.{Format, byte, give, followed, tested, framed, changed, either, times}
+use Rattle.etf_codec.specs.Answers.{IsFront, Answers}
 use Rattle.etf_codec.specs.Layout.{known_tags}
 use Rattle.etf_codec.specs.Spelling.{number, tag_of}
 
@@ -46,6 +47,10 @@ reference creation = followed (number 2) (λ n. at_node (creation + 4 * n))
 abbrev pub parts : Format (Unit {0}) → ℕ → Format (Unit {0})
 parts part n = changed (times n part) (λ ts. tt)
 
+-- a number of so many bytes, for each one so many terms, and so many more
+abbrev pub counted : Format (Unit {0}) → (size each extra : ℕ) → Format (Unit {0})
+counted part size each extra = followed (number size) (λ n. parts part (each * n + extra))
+
 -- what follows a tag, one case for each
 abbrev pub skip_body : Format (Unit {0}) → ℕ → Format (Unit {0})
 skip_body part tag =
@@ -61,10 +66,10 @@ skip_body part tag =
     (either (tag == 107) (sized_gap 2 0)
     (either (tag == 109) (sized_gap 4 0)
     (either (tag == 77) (sized_gap 4 1)
-    (either (tag == 104) (followed (number 1) (parts part))
-    (either (tag == 105) (followed (number 4) (parts part))
-    (either (tag == 108) (followed (number 4) (λ n. parts part (n + 1)))
-    (either (tag == 116) (followed (number 4) (λ n. parts part (2 * n)))
+    (either (tag == 104) (counted part 1 1 0)
+    (either (tag == 105) (counted part 4 1 0)
+    (either (tag == 108) (counted part 4 1 1)
+    (either (tag == 116) (counted part 4 2 0)
     (either (tag == 103) (at_node 9)
     (either (tag == 88) (at_node 12)
     (either (tag == 102) (at_node 5)
@@ -92,3 +97,8 @@ SkipPart bytes = skipped.Part bytes
 
 abbrev pub SkipBreak : List ℕ → EtfFault → Type 0
 SkipBreak bytes fault = skipped.Break 0 0 bytes fault
+
+-- what `skip` answers: the length of the term in front, or the fault; it needs no memory
+abbrev pub SkipsBy : List ℕ → Result ℕ EtfFault → Type 0
+SkipsBy bytes (Ok count) = IsFront skipped bytes tt count
+SkipsBy bytes (Err fault) = (fault ≢ Memory) × Answers skipped 0 bytes (Err fault)

@@ -4,7 +4,9 @@
 #![tactic(auto)]
 
 pub use fault::EtfFault;
+pub use skipping::skip;
 pub use std::alloc::AllocError as Memory;
 
 mod cursor;
 mod fault;
+mod skipping;
