@@ -2,7 +2,8 @@
 use Rattle.std.proofs.Common.{◌≡◌, ℕ, Bool, true, false, Result, Ok, Err, ap, ◌∙◌, sym}
 use Rattle.std.specs.Result.{IsErrAnd}
 use Rattle.etf_codec.specs.declared.fault.EtfFault.{EtfFault}
-use Rattle.etf_codec.specs.Format.{Place, Format, Reading, followed, go_on}
+use Rattle.etf_codec.specs.Format.{Place, Format, Reading, byte, followed, framed, judged, go_on}
+use Rattle.etf_codec.specs.Spelling.{tag_of}
 use Rattle.etf_codec.specs.Reads.{Reads, ReadsAs, behind_tag}
 use Rattle.etf_codec.proofs.Bytes.{go_on_ok, go_on_err}
 
@@ -27,3 +28,28 @@ reads_first_fault F G term before behind answer fault h e = reads_fault (followe
 pub reads_same : {A : Type 0} (r s : Reading A) (behind : Place) (answer : Result A EtfFault) → r ≡ s → ReadsAs s behind answer → ReadsAs r behind answer
 reads_same r s behind (Ok x) e h = e ∙ h
 reads_same r s behind (Err fault) e h = e ∙ h
+
+-- ---- behind a tag
+
+-- a term whose tag is taken, and one whose tag is refused
+pub reads_tagged : {A : Type 0} (test : ℕ → Bool) (refuse : ℕ → ℕ → EtfFault) (G : ℕ → Format A) (term : ℕ) (before between behind : Place) (tag : ℕ) (answer : Result A EtfFault)
+    → byte.read term before ≡ Ok (tag, between) → test tag ≡ true → Reads (G tag) term between behind answer
+    → Reads (followed (tag_of test refuse) G) term before behind answer
+reads_tagged test refuse G term before between behind tag answer e t h =
+    reads_behind (tag_of test refuse) G term before between behind tag answer
+    (go_on_ok _ _ _ _ e ∙ ap (λ b. judged b (refuse term tag) tag between) t) h
+
+pub tag_refused : {A : Type 0} (test : ℕ → Bool) (refuse : ℕ → ℕ → EtfFault) (G : ℕ → Format A) (term : ℕ) (before between : Place) (tag : ℕ)
+    → byte.read term before ≡ Ok (tag, between) → test tag ≡ false → (followed (tag_of test refuse) G).read term before ≡ Err (refuse term tag)
+tag_refused test refuse G term before between tag e t =
+    go_on_err _ _ _ (go_on_ok _ _ _ _ e ∙ ap (λ b. judged b (refuse term tag) tag between) t)
+
+pub no_tag : {A : Type 0} (test : ℕ → Bool) (refuse : ℕ → ℕ → EtfFault) (G : ℕ → Format A) (term : ℕ) (before : Place) (fault : EtfFault)
+    → byte.read term before ≡ Err fault → (followed (tag_of test refuse) G).read term before ≡ Err fault
+no_tag test refuse G term before fault e = go_on_err _ _ _ (go_on_err _ _ _ e)
+
+-- a term of its own
+pub reads_framed : {A : Type 0} (F : Format A) (term : ℕ) (before behind : Place) (answer : Result A EtfFault)
+    → Reads F before.offset before behind answer → Reads (framed F) term before behind answer
+reads_framed F term before behind (Ok x) h = h
+reads_framed F term before behind (Err fault) h = h
