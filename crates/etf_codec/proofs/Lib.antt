@@ -5,4 +5,5 @@ pub mod SkippingExact
 pub mod GoOn
 pub mod Resuming
 pub mod Bytes
+pub mod Passing
 pub mod Reading

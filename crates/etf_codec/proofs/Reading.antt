@@ -1,5 +1,5 @@
 -- What a reader answers at the exit of a call that failed.
-use Rattle.std.proofs.Common.{◌≡◌, ℕ, Bool, true, false, Result, Ok, Err, ap, ◌∙◌, sym}
+use Rattle.std.proofs.Common.{◌≡◌, ℕ, Bool, true, false, Result, Ok, Err, refl, ap, ◌∙◌, sym}
 use Rattle.std.specs.Result.{IsErrAnd}
 use Rattle.etf_codec.specs.declared.fault.EtfFault.{EtfFault}
 use Rattle.etf_codec.specs.Format.{Place, Format, Reading, byte, followed, framed, judged, go_on}
@@ -53,3 +53,30 @@ pub reads_framed : {A : Type 0} (F : Format A) (term : ℕ) (before behind : Pla
     → Reads F before.offset before behind answer → Reads (framed F) term before behind answer
 reads_framed F term before behind (Ok x) h = h
 reads_framed F term before behind (Err fault) h = h
+
+-- what is read at a place, told by its reading
+pub reads_as : {A : Type 0} (F : Format A) (term : ℕ) (before behind : Place) (answer : Result A EtfFault)
+    → ReadsAs (F.read term before) behind answer → Reads F term before behind answer
+reads_as F term before behind (Ok x) h = h
+reads_as F term before behind (Err fault) h = h
+
+pub as_reads : {A : Type 0} (F : Format A) (term : ℕ) (before behind : Place) (answer : Result A EtfFault)
+    → Reads F term before behind answer → ReadsAs (F.read term before) behind answer
+as_reads F term before behind (Ok x) h = h
+as_reads F term before behind (Err fault) h = h
+
+-- a term is what is read behind its tag
+go_on_judged : {A : Type 0} (G : ℕ → Format A) (term tag : ℕ) (between : Place) (fault : EtfFault) (known : Bool)
+    → go_on (judged known fault tag between) (λ x behind. (G x).read term behind) ≡ behind_tag known fault (G tag) term between
+go_on_judged G term tag between fault true = refl
+go_on_judged G term tag between fault false = refl
+
+pub reads_behind_tag : {A : Type 0} (test : ℕ → Bool) (refuse : ℕ → ℕ → EtfFault) (G : ℕ → Format A) (term : ℕ) (before between behind : Place) (tag : ℕ) (answer : Result A EtfFault)
+    → byte.read before.offset before ≡ Ok (tag, between) → ReadsAs (behind_tag (test tag) (refuse before.offset tag) (G tag) before.offset between) behind answer
+    → Reads (framed (followed (tag_of test refuse) G)) term before behind answer
+reads_behind_tag test refuse G term before between behind tag answer e h =
+    reads_framed (followed (tag_of test refuse) G) term before behind answer
+    (reads_as (followed (tag_of test refuse) G) before.offset before behind answer
+    (reads_same _ _ behind answer
+    (ap (λ r. go_on (go_on r (λ x b. judged (test x) (refuse before.offset x) x b)) (λ x b. (G x).read before.offset b)) e
+    ∙ go_on_judged G before.offset tag between (refuse before.offset tag) (test tag)) h))
