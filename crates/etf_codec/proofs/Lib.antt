@@ -6,4 +6,6 @@ pub mod GoOn
 pub mod Resuming
 pub mod Bytes
 pub mod Passing
+pub mod Answering
+pub mod SkippingMemory
 pub mod Reading

@@ -53,8 +53,8 @@ element_last start at ts t begun place = refl
 
 pub item_first : (n start : ℕ) (ts : List TermValue) (begun : List Begun) (place : Place)
     → go_on ((followed (times (suc n) (part_at (levels_below (record { start = start; frame = item n ts } ∷ begun))))
-            (λ us. changed (tail_at (levels_below (record { start = start; frame = item n ts } ∷ begun))) (λ end. chain (ts ++ us) end))).read start place)
-        (λ whole behind. resume begun start whole behind)
+    (λ us. changed (tail_at (levels_below (record { start = start; frame = item n ts } ∷ begun))) (λ end. chain (ts ++ us) end))).read start place)
+    (λ whole behind. resume begun start whole behind)
     ≡ reading_at (record { start = start; frame = item n ts } ∷ begun) place
 item_first n start ts begun place =
     let levels = levels_below (record { start = start; frame = item n ts } ∷ begun) in
@@ -68,7 +68,7 @@ item_more n start at ts t begun place =
     let same : (us : List TermValue) → (λ (end : TermValue). chain (ts ++ t ∷ us) end) ≡ (λ (end : TermValue). chain ((ts ++ t ∷ []) ++ us) end)
     = λ us. ap (λ vs (end : TermValue). chain vs end) (pushed ts t us) in
     ap (λ (f : List TermValue → TermValue → TermValue). go_on ((followed (times (suc n) (part_at levels)) (λ us. changed (tail_at levels) (f us))).read start place) (λ whole behind. resume begun start whole behind))
-        (fun_ext same)
+    (fun_ext same)
     ∙ item_first n start (ts ++ t ∷ []) begun place
 
 pub item_last : (start at : ℕ) (ts : List TermValue) (t : TermValue) (begun : List Begun) (place : Place)
@@ -89,22 +89,22 @@ pub key_known : (n start at : ℕ) (pairs : List (TermValue × TermValue)) (k : 
 key_known n start at pairs k begun place e =
     let levels = levels_below (record { start = start; frame = key n pairs } ∷ begun) in
     ap (λ known. go_on (cond (not known) ((followed (part_at levels) (λ v. map_behind levels (placed (k, v) pairs) n)).read start place) (Err (RepeatedKey at)))
-            (λ whole behind. resume begun start whole behind)) e
+    (λ whole behind. resume begun start whole behind)) e
 
 pub key_new : (n start at : ℕ) (pairs : List (TermValue × TermValue)) (k : TermValue) (begun : List Begun) (place : Place) → list_any (is_same k) (keys pairs) ≡ false
     → resume (record { start = start; frame = key n pairs } ∷ begun) at k place ≡ reading_at (record { start = start; frame = value n pairs k } ∷ begun) place
 key_new n start at pairs k begun place e =
     let levels = levels_below (record { start = start; frame = key n pairs } ∷ begun) in
     ap (λ known. go_on (cond (not known) ((followed (part_at levels) (λ v. map_behind levels (placed (k, v) pairs) n)).read start place) (Err (RepeatedKey at)))
-            (λ whole behind. resume begun start whole behind)) e
+    (λ whole behind. resume begun start whole behind)) e
     ∙ go_on_twice ((part_at levels).read start place) (λ v b. (map_behind levels (placed (k, v) pairs) n).read start b) (λ whole behind. resume begun start whole behind)
     ∙ ap (λ r. go_on r (λ v b. go_on ((map_behind levels (placed (k, v) pairs) n).read start b) (λ whole behind. resume begun start whole behind)))
-        (part_anywhere levels start place.offset place)
+    (part_anywhere levels start place.offset place)
 
 -- reading the rest of a map is reading its next key
 first_key : {A : Type 0} (levels n start : ℕ) (pairs : List (TermValue × TermValue)) (r : Reading TermValue) (offset : ℕ) (R : TermValue → Place → Reading A)
     → go_on (go_on (go_on (go_on r (λ k b. judged (not (list_any (is_same k) (keys pairs))) (RepeatedKey offset) k b))
-            (λ k b. (followed (part_at levels) (λ v. pairs_after (part_at levels) (placed (k, v) pairs) n)).read start b)) (λ all b. Ok (map_of all, b))) R
+    (λ k b. (followed (part_at levels) (λ v. pairs_after (part_at levels) (placed (k, v) pairs) n)).read start b)) (λ all b. Ok (map_of all, b))) R
     ≡ go_on r (λ k b. go_on (cond (not (list_any (is_same k) (keys pairs))) ((followed (part_at levels) (λ v. map_behind levels (placed (k, v) pairs) n)).read start b) (Err (RepeatedKey offset))) R)
 first_key levels n start pairs (Err fault) offset R = refl
 first_key {A} levels n start pairs (Ok r) offset R = by (not (list_any (is_same r.0) (keys pairs)))

@@ -68,7 +68,13 @@ fn skip_tagged(cursor: &mut Cursor, levels: u32, tag: u8, at: u64) -> Result<(),
 
 /// Passes over a number of so many bytes, for each one so many terms, and so many more.
 #[cycle(skip)]
-fn skip_counted(cursor: &mut Cursor, levels: u32, size: u32, each: u64, extra: u64) -> Result<(), EtfFault>
+fn skip_counted(
+    cursor: &mut Cursor,
+    levels: u32,
+    size: u32,
+    each: u64,
+    extra: u64,
+) -> Result<(), EtfFault>
     requires size { size ≤ 4 }
     requires each { each ≤ 2 }
     requires extra { extra ≤ 1 }
