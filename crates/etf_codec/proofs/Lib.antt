@@ -9,3 +9,10 @@ pub mod Passing
 pub mod Answering
 pub mod SkippingMemory
 pub mod Reading
+pub mod Sharpness
+pub mod SpellingSharp
+pub mod Moving
+pub mod SpellingMoves
+pub mod Beginnings
+pub mod Fronts
+pub mod Rows

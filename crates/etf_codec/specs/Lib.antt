@@ -6,9 +6,12 @@
 -- place behind it, or to the fault. `Exact` says that the two agree.
 pub mod Format
 pub mod Exact
+pub mod Sharp
 pub mod Layout
 pub mod Spelling
 pub mod Skipping
 pub mod Machine
 pub mod Reads
 pub mod Answers
+pub mod Fronts
+pub mod Moved

@@ -5,6 +5,7 @@ use Rattle.std.specs.List.{list_any}
 use Rattle.etf_codec.specs.declared.fault.EtfFault.{EtfFault}
 use Rattle.etf_codec.specs.declared.fault.EtfFault.TheVariants.{Unsupported, Depth, Memory}
 use Rattle.etf_codec.specs.Format.{Format, byte, give, followed, tested, framed, changed, either, times}
+use Rattle.etf_codec.specs.Exact.{Begins}
 use Rattle.etf_codec.specs.Answers.{IsFront, Answers}
 use Rattle.etf_codec.specs.Layout.{known_tags}
 use Rattle.etf_codec.specs.Spelling.{number, tag_of}
@@ -97,6 +98,10 @@ SkipPart bytes = skipped.Part bytes
 
 abbrev pub SkipBreak : List ℕ → EtfFault → Type 0
 SkipBreak bytes fault = skipped.Break 0 0 bytes fault
+
+-- a front of some bytes breaks a rule with its last byte
+abbrev pub BeginsWithSkipBreak : List ℕ → Type 0
+BeginsWithSkipBreak bytes = (fault : EtfFault) × Begins (λ front. SkipBreak front fault) bytes
 
 -- what `skip` answers: the length of the term in front, or the fault; it needs no memory
 abbrev pub SkipsBy : List ℕ → Result ℕ EtfFault → Type 0

@@ -9,4 +9,6 @@ pub use std::alloc::AllocError as Memory;
 
 mod cursor;
 mod fault;
+pub mod laws;
 mod skipping;
+pub mod skipping_laws;
