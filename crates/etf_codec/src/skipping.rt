@@ -6,6 +6,9 @@ ghost use Rattle.etf_codec.specs.declared.fault.EtfFault.TheVariants.{Unsupporte
 use crate::EtfFault;
 use crate::cursor::Cursor;
 
+#[cfg(test)]
+mod tests;
+
 /// How many levels a term that is passed over has at most.
 const MAX_LEVELS: u32 = 256;
 
