@@ -3,7 +3,7 @@ use Rattle.std.proofs.Common.{◌≢◌, ℕ, zero, suc, ◌+◌, ◌*◌, pos, 
 use Rattle.std.specs.List.{list_any}
 use Rattle.dets_term.specs.TermValue.{TermValue, integer, atom, tuple, nil, chain, map_of, bits}
 use Rattle.dets_term.specs.Order.{is_same}
-use Rattle.dets_term.specs.Pairs.{keys, by_key}
+use Rattle.dets_term.specs.Pairs.{keys, placed}
 use Rattle.dets_term.specs.BitString.{bits_of}
 use Rattle.etf_codec.specs.declared.fault.EtfFault.{EtfFault}
 use Rattle.etf_codec.specs.declared.fault.EtfFault.TheVariants.{Short, NotVersion, Unsupported, Compressed, IntegerRange, BadAtom, BadBits, RepeatedKey, Depth}
@@ -20,17 +20,17 @@ number_after-exact n zero = give-exact n
 number_after-exact n (suc size) =
     followed-exact byte (λ x. number_after (256 * n + x) size) byte-exact (λ x. number_after-exact (256 * n + x) size)
 
-number-exact : (size : ℕ) → IsExact (number size)
+pub number-exact : (size : ℕ) → IsExact (number size)
 number-exact size = number_after-exact 0 size
 
-bytes-exact : (n : ℕ) → IsExact (times n byte)
+pub bytes-exact : (n : ℕ) → IsExact (times n byte)
 bytes-exact n = times-exact n byte byte-exact
 
 sized-exact : (size : ℕ) → IsExact (sized size)
 sized-exact size = followed-exact (number size) (λ n. times n byte) (number-exact size) bytes-exact
 
 -- a byte that is to pass a test
-tested_byte-exact : (test : ℕ → Bool) (fault : ℕ → ℕ → EtfFault) → ((term x : ℕ) → fault term x ≢ Short) → IsExact (tested byte test fault)
+pub tested_byte-exact : (test : ℕ → Bool) (fault : ℕ → ℕ → EtfFault) → ((term x : ℕ) → fault term x ≢ Short) → IsExact (tested byte test fault)
 tested_byte-exact test fault other = tested-exact byte test fault byte-exact (λ term x _. other term x)
 
 count_after-exact : (may : Bool) (n size : ℕ) → IsExact (count_after may n size)
@@ -102,15 +102,15 @@ module _ (part tail : Format TermValue) (p : IsExact part) (t : IsExact tail) wh
   pairs_after-exact pairs zero = give-exact pairs
   pairs_after-exact pairs (suc n) =
       followed-exact (framed (tested part (λ k. not (list_any (is_same k) (keys pairs))) (λ term k. RepeatedKey term)))
-      (λ k. followed part (λ v. pairs_after part (pairs ++ (k, v) ∷ []) n))
+      (λ k. followed part (λ v. pairs_after part (placed (k, v) pairs) n))
       (framed-exact (tested part (λ k. not (list_any (is_same k) (keys pairs))) (λ term k. RepeatedKey term))
       (tested-exact part (λ k. not (list_any (is_same k) (keys pairs))) (λ term k. RepeatedKey term) p (λ term k _ e. cc)))
-      (λ k. followed-exact part (λ v. pairs_after part (pairs ++ (k, v) ∷ []) n) p (λ v. pairs_after-exact (pairs ++ (k, v) ∷ []) n))
+      (λ k. followed-exact part (λ v. pairs_after part (placed (k, v) pairs) n) p (λ v. pairs_after-exact (placed (k, v) pairs) n))
 
   map_format-exact : (levels : ℕ) → IsExact (map_format part levels)
   map_format-exact levels =
-      followed-exact (count levels 4) (λ n. changed (pairs_after part [] n) (λ pairs. map_of (by_key pairs))) (count-exact levels 4)
-      (λ n. changed-exact (pairs_after part [] n) (λ pairs. map_of (by_key pairs)) (pairs_after-exact [] n))
+      followed-exact (count levels 4) (λ n. changed (pairs_after part [] n) map_of) (count-exact levels 4)
+      (λ n. changed-exact (pairs_after part [] n) map_of (pairs_after-exact [] n))
 
   body-exact : (levels tag : ℕ) → IsExact (body part tail levels tag)
   body-exact levels tag =

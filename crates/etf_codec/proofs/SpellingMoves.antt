@@ -3,7 +3,7 @@ use Rattle.std.proofs.Common.{◌≡◌, refl, ℕ, zero, suc, ◌+◌, ◌*◌,
 use Rattle.std.specs.List.{list_any}
 use Rattle.dets_term.specs.TermValue.{TermValue, integer, atom, tuple, nil, chain, map_of, bits}
 use Rattle.dets_term.specs.Order.{is_same}
-use Rattle.dets_term.specs.Pairs.{keys, by_key}
+use Rattle.dets_term.specs.Pairs.{keys, placed}
 use Rattle.dets_term.specs.BitString.{bits_of}
 use Rattle.etf_codec.specs.declared.fault.EtfFault.{EtfFault}
 use Rattle.etf_codec.specs.declared.fault.EtfFault.TheVariants.{NotVersion, Unsupported, Compressed, IntegerRange, BadAtom, BadBits, RepeatedKey, Depth}
@@ -102,15 +102,15 @@ module _ (part tail : Format TermValue) (p : IsMoving part) (t : IsMoving tail) 
   pairs_after_moves pairs zero = give_moves pairs
   pairs_after_moves pairs (suc n) =
       followed_moves (framed (tested part (λ k. not (list_any (is_same k) (keys pairs))) (λ term k. RepeatedKey term)))
-      (λ k. followed part (λ v. pairs_after part (pairs ++ (k, v) ∷ []) n))
+      (λ k. followed part (λ v. pairs_after part (placed (k, v) pairs) n))
       (framed_moves (tested part (λ k. not (list_any (is_same k) (keys pairs))) (λ term k. RepeatedKey term))
       (tested_moves part (λ k. not (list_any (is_same k) (keys pairs))) (λ term k. RepeatedKey term) p (λ n term k. refl)))
-      (λ k. followed_moves part (λ v. pairs_after part (pairs ++ (k, v) ∷ []) n) p (λ v. pairs_after_moves (pairs ++ (k, v) ∷ []) n))
+      (λ k. followed_moves part (λ v. pairs_after part (placed (k, v) pairs) n) p (λ v. pairs_after_moves (placed (k, v) pairs) n))
 
   map_format_moves : (levels : ℕ) → IsMoving (map_format part levels)
   map_format_moves levels =
-      followed_moves (count levels 4) (λ n. changed (pairs_after part [] n) (λ pairs. map_of (by_key pairs))) (count_moves levels 4)
-      (λ n. changed_moves (pairs_after part [] n) (λ pairs. map_of (by_key pairs)) (pairs_after_moves [] n))
+      followed_moves (count levels 4) (λ n. changed (pairs_after part [] n) map_of) (count_moves levels 4)
+      (λ n. changed_moves (pairs_after part [] n) map_of (pairs_after_moves [] n))
 
   body_moves : (levels tag : ℕ) → IsMoving (body part tail levels tag)
   body_moves levels tag =

@@ -4,7 +4,7 @@ use Rattle.std.proofs.lemmas.Bool.{eqb-true, eqb-false}
 use Rattle.std.specs.List.{list_any}
 use Rattle.dets_term.specs.TermValue.{TermValue, integer, atom, tuple, nil, chain, map_of, bits}
 use Rattle.dets_term.specs.Order.{is_same}
-use Rattle.dets_term.specs.Pairs.{keys, by_key}
+use Rattle.dets_term.specs.Pairs.{keys, placed}
 use Rattle.dets_term.specs.BitString.{bits_of}
 use Rattle.etf_codec.specs.declared.fault.EtfFault.{EtfFault}
 use Rattle.etf_codec.specs.declared.fault.EtfFault.TheVariants.{NotVersion, Unsupported, Compressed, IntegerRange, BadAtom, BadBits, RepeatedKey, Depth}
@@ -123,16 +123,16 @@ module _ (part tail : Format TermValue) (some : HasBytes part) (levels : ℕ) (p
   pairs_after-sharp pairs (suc n) q =
       let s : IsSharp part = q (omega arith) in
       followed-sharp (framed (tested part (λ k. not (list_any (is_same k) (keys pairs))) (λ term k. RepeatedKey term)))
-      (λ k. followed part (λ v. pairs_after part (pairs ++ (k, v) ∷ []) n))
+      (λ k. followed part (λ v. pairs_after part (placed (k, v) pairs) n))
       (framed-sharp (tested part (λ k. not (list_any (is_same k) (keys pairs))) (λ term k. RepeatedKey term))
       (tested-sharp part (λ k. not (list_any (is_same k) (keys pairs))) (λ term k. RepeatedKey term) s some))
-      (λ k front w. followed-sharp part (λ v. pairs_after part (pairs ++ (k, v) ∷ []) n) s
-      (λ v front w. pairs_after-sharp (pairs ++ (k, v) ∷ []) n (λ _. s)))
+      (λ k front w. followed-sharp part (λ v. pairs_after part (placed (k, v) pairs) n) s
+      (λ v front w. pairs_after-sharp (placed (k, v) pairs) n (λ _. s)))
 
   map_format-sharp : IsSharp (map_format part levels)
   map_format-sharp =
-      followed-sharp (count levels 4) (λ n. changed (pairs_after part [] n) (λ pairs. map_of (by_key pairs))) (count-sharp levels 4)
-      (λ n front w. changed-sharp (pairs_after part [] n) (λ pairs. map_of (by_key pairs)) (pairs_after-sharp [] n (counted 4 n front w)))
+      followed-sharp (count levels 4) (λ n. changed (pairs_after part [] n) map_of) (count-sharp levels 4)
+      (λ n front w. changed-sharp (pairs_after part [] n) map_of (pairs_after-sharp [] n (counted 4 n front w)))
 
   body-sharp : (tag : ℕ) → IsSharp (body part tail levels tag)
   body-sharp tag =

@@ -9,5 +9,9 @@ pub mod Exact
 pub mod Sharp
 pub mod Layout
 pub mod Spelling
+pub mod Skipping
+pub mod Machine
+pub mod Reads
+pub mod Answers
 pub mod Fronts
 pub mod Moved

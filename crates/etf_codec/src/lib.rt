@@ -4,8 +4,12 @@
 #![tactic(auto)]
 
 pub use fault::EtfFault;
+pub use skipping::skip;
 pub use std::alloc::AllocError as Memory;
 
+mod cursor;
 mod fault;
 pub mod laws;
 pub mod rows;
+mod skipping;
+pub mod skipping_laws;
