@@ -9,9 +9,7 @@ use Rattle.etf_codec.specs.Spelling.{spelling, Spells, IsPart, IsBreak}
 use Rattle.etf_codec.specs.Fronts.{BeginsWithTerm, BeginsWithBreak}
 use Rattle.etf_codec.specs.Moved.{moved}
 use Rattle.etf_codec.proofs.Exactness.{same_answer}
-use Rattle.etf_codec.proofs.SpellingExact.{spelling-exact}
-use Rattle.etf_codec.proofs.SpellingSharp.{spelling-sharp}
-use Rattle.etf_codec.proofs.SpellingMoves.{spelling_moves}
+use Rattle.etf_codec.proofs.SpellingExact.{spelling-exact, spelling-sharp, spelling-moving}
 
 -- what reading bytes that begin at an offset answers
 abbrev pub reading : ℕ → List ℕ → Reading TermValue
@@ -145,7 +143,7 @@ one_break start front rest other more f g b c e =
 -- ---- breaks at another offset
 
 pub moved_break : (start n : ℕ) (bytes : List ℕ) (fault : EtfFault) → IsBreak start bytes fault → IsBreak (start + n) bytes (moved n fault)
-moved_break start n bytes fault b = spelling_moves.break_moves n start start bytes fault b
+moved_break start n bytes fault b = spelling-moving.break_moves n start start bytes fault b
 
 -- what breaks a rule at one offset does so at each
 other_break : (start n : ℕ) (bytes : List ℕ) (fault : EtfFault) → IsBreak (start + n) bytes fault → OneOfThree start bytes → (f : EtfFault) × (fault ≡ moved n f) × IsBreak start bytes f
