@@ -12,14 +12,14 @@ which_fault other = inr (λ e. cc)
 
 module _ {A : Type 0} (F : Format A) (f : IsExact F) where
   -- what reading bytes that begin at an offset answers
-  abbrev reading : ℕ → List ℕ → Reading A
+  abbrev pub reading : ℕ → List ℕ → Reading A
   reading start bytes = F.read start (record { offset = start; left = bytes })
 
   -- a value, a break
-  abbrev BeginsWhole : List ℕ → Type 0
+  abbrev pub BeginsWhole : List ℕ → Type 0
   BeginsWhole bytes = (x : A) × Begins (F.Whole x) bytes
 
-  abbrev BeginsBreak : ℕ → List ℕ → Type 0
+  abbrev pub BeginsBreak : ℕ → List ℕ → Type 0
   BeginsBreak start bytes = (fault : EtfFault) × Begins (λ front. F.Break start start front fault) bytes
 
   -- ---- two values in front of the same bytes
@@ -35,7 +35,7 @@ module _ {A : Type 0} (F : Format A) (f : IsExact F) where
 
   -- ---- one of three
 
-  abbrev OneOfThree : ℕ → List ℕ → Type 0
+  abbrev pub OneOfThree : ℕ → List ℕ → Type 0
   OneOfThree start bytes = BeginsWhole bytes ⊎ (BeginsBreak start bytes ⊎ F.Part bytes)
 
   by_fault : (start : ℕ) (bytes : List ℕ) (fault : EtfFault) → reading start bytes ≡ Err fault → (fault ≡ Short) ⊎ (fault ≢ Short) → OneOfThree start bytes

@@ -15,6 +15,6 @@ pub mod Passing
 pub mod Answering
 pub mod Reading
 pub mod Beginnings
-pub mod Fronts
+pub mod Breaks
 pub mod ByReading
 pub mod Computing
