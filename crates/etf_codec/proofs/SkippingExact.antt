@@ -1,7 +1,7 @@
 -- The reading of what is passed over agrees with its relations.
-use Rattle.std.proofs.Common.{◌≢◌, ℕ, zero, suc, ◌+◌, ◌*◌, Bool, true, false, ◌||◌, ◌==◌}
+use Rattle.std.proofs.Common.{ℕ, zero, suc, ◌+◌, ◌*◌, false, ◌||◌, ◌==◌}
 use Rattle.etf_codec.specs.declared.fault.EtfFault.TheVariants.{Unsupported, Depth}
-use Rattle.etf_codec.specs.Format.{Format, byte, followed, framed, changed, either, times}
+use Rattle.etf_codec.specs.Format.{Format, byte, followed, changed, either, times}
 use Rattle.etf_codec.specs.Exact.{IsExact}
 use Rattle.etf_codec.specs.Spelling.{number, tag_of}
 use Rattle.etf_codec.specs.Skipping.{has_layout, begins_node, gap, sized_gap, node, at_node, reference, parts, counted, skip_body, skipped_at, skipped}

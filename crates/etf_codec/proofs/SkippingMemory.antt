@@ -1,8 +1,8 @@
 -- What is passed over is never refused for want of memory.
-use Rattle.std.proofs.Common.{◌≡◌, ◌≢◌, ℕ, zero, suc, ◌+◌, ◌*◌, Bool, true, false, ◌||◌, ◌==◌, List, [], ◌∷◌, Ok, Err, refl}
+use Rattle.std.proofs.Common.{◌≡◌, ◌≢◌, ℕ, zero, suc, ◌+◌, ◌*◌, Bool, true, false, ◌||◌, ◌==◌, List, [], ◌∷◌, Ok, Err}
 use Rattle.etf_codec.specs.declared.fault.EtfFault.{EtfFault}
 use Rattle.etf_codec.specs.declared.fault.EtfFault.TheVariants.{Unsupported, Depth, Memory}
-use Rattle.etf_codec.specs.Format.{Place, Reading, Format, byte, give, go_on, first_byte, followed, judged, tested, framed, changed, either, times}
+use Rattle.etf_codec.specs.Format.{Place, Reading, Format, byte, give, go_on, first_byte, followed, judged, framed, changed, either, times}
 use Rattle.etf_codec.specs.Spelling.{number_after, number, tag_of}
 use Rattle.etf_codec.specs.Skipping.{has_layout, begins_node, gap, sized_gap, node, at_node, reference, parts, counted, skip_body, skipped_at, skipped}
 

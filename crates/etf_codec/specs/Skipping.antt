@@ -4,7 +4,7 @@ use Rattle.std.specs.Prelude.{ℕ, zero, suc, ◌+◌, ◌*◌, Bool, false, ◌
 use Rattle.std.specs.List.{list_any}
 use Rattle.etf_codec.specs.declared.fault.EtfFault.{EtfFault}
 use Rattle.etf_codec.specs.declared.fault.EtfFault.TheVariants.{Unsupported, Depth, Memory}
-use Rattle.etf_codec.specs.Format.{Format, byte, give, followed, tested, framed, changed, either, times}
+use Rattle.etf_codec.specs.Format.{Format, byte, followed, framed, changed, either, times}
 use Rattle.etf_codec.specs.Exact.{Begins}
 use Rattle.etf_codec.specs.Answers.{IsFront, Answers}
 use Rattle.etf_codec.specs.Layout.{known_tags}

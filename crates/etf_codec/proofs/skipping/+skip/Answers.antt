@@ -1,4 +1,4 @@
-use Rattle.std.proofs.Common.{ℕ, ◌+◌, ◌*◌, ◌-◌, Err, refl, ap, ◌∙◌, sym, subst, arith}
+use Rattle.std.proofs.Common.{◌+◌, ◌*◌, ◌-◌, Err, refl, ap, ◌∙◌, sym, subst, arith}
 use Rattle.etf_codec.specs.declared.fault.EtfFault.TheVariants.{Depth}
 use Rattle.etf_codec.specs.Spelling.{number}
 use Rattle.etf_codec.specs.Reads.{Reads}

@@ -1,9 +1,8 @@
-use Rattle.std.proofs.Common.{◌≡◌, ◌≢◌, ℕ, List, Result, Ok, Err, ap, sym, ◌∙◌, subst}
+use Rattle.std.proofs.Common.{◌≡◌, ℕ, List, Result, Ok, Err, ap, sym, ◌∙◌, subst}
 use Rattle.std.specs.Result.{IsErrAnd}
 use Rattle.etf_codec.specs.declared.fault.EtfFault.{EtfFault}
-use Rattle.etf_codec.specs.declared.fault.EtfFault.TheVariants.{Memory}
 use Rattle.etf_codec.specs.Format.{Place}
-use Rattle.etf_codec.specs.Answers.{IsFront, Answers}
+use Rattle.etf_codec.specs.Answers.{IsFront}
 use Rattle.etf_codec.specs.Skipping.{skipped, SkipsBy}
 use Rattle.etf_codec.proofs.Answering.{front_read, fault_read}
 use Rattle.etf_codec.proofs.SkippingExact.{skipped-exact}

@@ -1,5 +1,4 @@
-use Rattle.std.proofs.Common.{◌+◌, subst, sym, ap}
-use Rattle.etf_codec.specs.Format.{Format}
+use Rattle.std.proofs.Common.{◌+◌, subst}
 use Rattle.etf_codec.specs.Spelling.{number}
 use Rattle.etf_codec.specs.Reads.{Reads}
 use Rattle.etf_codec.specs.Skipping.{gap}
