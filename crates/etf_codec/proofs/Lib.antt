@@ -15,4 +15,5 @@ pub mod Moving
 pub mod SpellingMoves
 pub mod Beginnings
 pub mod Fronts
-pub mod Rows
+pub mod ByReading
+pub mod Computing

@@ -10,5 +10,6 @@ pub use std::alloc::AllocError as Memory;
 mod cursor;
 mod fault;
 pub mod laws;
+pub mod rows;
 mod skipping;
 pub mod skipping_laws;
