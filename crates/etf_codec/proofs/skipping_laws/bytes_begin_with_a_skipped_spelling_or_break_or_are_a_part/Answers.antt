@@ -1,7 +1,7 @@
 use Rattle.std.proofs.Common.{ℕ, List, ◌⊎◌, inl, inr}
 use Rattle.etf_codec.specs.Exact.{Begins}
 use Rattle.etf_codec.specs.Skipping.{skipped, SkipSpelled, SkipPart, BeginsWithSkipBreak}
-use Rattle.etf_codec.proofs.Beginnings.{one_of_three}
+use Rattle.etf_codec.proofs.Beginnings.{begins_with_one}
 use Rattle.etf_codec.proofs.SkippingExact.{skipped-exact}
 use Rattle.etf_codec.proofs.skipping_laws.bytes_begin_with_a_skipped_spelling_or_break_or_are_a_part.Goals as goal
 
@@ -11,4 +11,4 @@ one bytes (inl (u, s)) = inl s
 one bytes (inr other) = inr other
 
 pub returns : goal.returns
-returns c bytes = one bytes (one_of_three skipped skipped-exact 0 bytes)
+returns c bytes = one bytes (begins_with_one skipped skipped-exact 0 bytes)

@@ -1,5 +1,5 @@
 use Rattle.etf_codec.specs.Skipping.{skipped}
-use Rattle.etf_codec.proofs.Beginnings.{whole_or_break, whole_or_part, break_or_part}
+use Rattle.etf_codec.proofs.Beginnings.{whole_or_break, whole_or_part, broken_or_part}
 use Rattle.etf_codec.proofs.SkippingExact.{skipped-exact}
 use Rattle.etf_codec.proofs.skipping_laws.skipped_bytes_are_no_two_of_these.Goals as goal
 
@@ -10,4 +10,4 @@ pub returns-clause-spelling_or_part : goal.returns-clause-spelling_or_part
 returns-clause-spelling_or_part c bytes s p = whole_or_part skipped skipped-exact bytes (tt, s) p
 
 pub returns-clause-break_or_part : goal.returns-clause-break_or_part
-returns-clause-break_or_part c bytes b p = break_or_part skipped skipped-exact 0 bytes b p
+returns-clause-break_or_part c bytes b p = broken_or_part skipped skipped-exact 0 bytes b p
