@@ -4,7 +4,7 @@ use Rattle.etf_codec.specs.declared.fault.EtfFault.{EtfFault}
 use Rattle.etf_codec.specs.declared.fault.EtfFault.TheVariants.{Short}
 use Rattle.etf_codec.specs.Format.{Place, Reading, Format}
 use Rattle.etf_codec.specs.Exact.{Begins, IsExact}
-use Rattle.etf_codec.specs.Sharp.{OneMore, IsSharp}
+use Rattle.etf_codec.specs.Sharp.{IsSharp}
 use Rattle.etf_codec.proofs.Exactness.{same_answer}
 
 which_fault : (fault : EtfFault) → (fault ≡ Short) ⊎ (fault ≢ Short)

@@ -13,6 +13,7 @@ pub mod Sharpness
 pub mod SpellingSharp
 pub mod Moving
 pub mod SpellingMoves
+pub mod SkippingSharp
 pub mod Beginnings
 pub mod Fronts
 pub mod ByReading

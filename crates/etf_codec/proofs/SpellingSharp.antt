@@ -1,5 +1,5 @@
 -- A rule of a spelling is broken by the last byte of a break, and no earlier.
-use Rattle.std.proofs.Common.{◌≡◌, ◌≢◌, ℕ, zero, suc, ◌+◌, ◌*◌, pos, Bool, true, false, cond, not, ◌==◌, nat_le, List, [], ◌∷◌, ◌++◌, refl, ◌∙◌, arith}
+use Rattle.std.proofs.Common.{◌≡◌, ◌≢◌, ℕ, zero, suc, ◌+◌, ◌*◌, pos, Bool, true, false, cond, not, ◌==◌, nat_le, List, [], refl, ◌∙◌, arith}
 use Rattle.std.proofs.lemmas.Bool.{eqb-true, eqb-false}
 use Rattle.std.specs.List.{list_any}
 use Rattle.dets_term.specs.TermValue.{TermValue, integer, atom, tuple, nil, chain, map_of, bits}
@@ -21,19 +21,19 @@ number_after-sharp n zero = give-sharp n
 number_after-sharp n (suc size) =
     followed-sharp byte (λ x. number_after (256 * n + x) size) byte-sharp (λ x front w. number_after-sharp (256 * n + x) size)
 
-number-sharp : (size : ℕ) → IsSharp (number size)
+pub number-sharp : (size : ℕ) → IsSharp (number size)
 number-sharp size = number_after-sharp 0 size
 
 number_some : (size : ℕ) → HasBytes (number (suc size))
 number_some size = followed_some byte (λ x. number_after (256 * 0 + x) size) byte_some
 
-bytes-sharp : (n : ℕ) → IsSharp (times n byte)
+pub bytes-sharp : (n : ℕ) → IsSharp (times n byte)
 bytes-sharp n = times-sharp n byte (λ _. byte-sharp)
 
 sized-sharp : (size : ℕ) → IsSharp (sized size)
 sized-sharp size = followed-sharp (number size) (λ n. times n byte) (number-sharp size) (λ n front w. bytes-sharp n)
 
-tested_byte-sharp : (test : ℕ → Bool) (fault : ℕ → ℕ → EtfFault) → IsSharp (tested byte test fault)
+pub tested_byte-sharp : (test : ℕ → Bool) (fault : ℕ → ℕ → EtfFault) → IsSharp (tested byte test fault)
 tested_byte-sharp test fault = tested-sharp byte test fault byte-sharp byte_some
 
 count_after-sharp : (may : Bool) (n size : ℕ) → IsSharp (count_after may n size)
