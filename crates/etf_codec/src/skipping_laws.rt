@@ -23,7 +23,13 @@ pub fn no_skipped_spelling_is_a_proper_prefix_of_another()
     ensures { (bytes rest : List ℕ) → SkipSpelled bytes → SkipSpelled (bytes ++ rest) → rest ≡ [] }
 {}
 
-/// The last byte of a break is the first to break a rule: without it the bytes end too early.
+/// The last byte of a break is the first to break a rule: without it the bytes end before a spelling does.
 pub fn the_last_byte_of_a_skip_break_is_the_first_to_break_a_rule()
     ensures { (bytes : List ℕ) (fault : EtfFault) → SkipBreak bytes fault → OneMore SkipPart bytes }
+{}
+
+/// Bytes have at most one break, of one fault.
+pub fn bytes_have_at_most_one_skip_break()
+    ensures { (front rest other more : List ℕ) (f g : EtfFault) → SkipBreak front f → SkipBreak other g
+        → front ++ rest ≡ other ++ more → (front ≡ other) × (f ≡ g) }
 {}
