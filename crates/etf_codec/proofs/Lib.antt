@@ -1,0 +1,20 @@
+-- Lemmas that several proofs share.
+pub mod Kept
+pub mod Exactness
+pub mod Sharpness
+pub mod Moving
+pub mod WantOfMemory
+pub mod SpellingKept
+pub mod SpellingExact
+pub mod SkippingKept
+pub mod SkippingExact
+pub mod GoOn
+pub mod Resuming
+pub mod Bytes
+pub mod Passing
+pub mod Answering
+pub mod Reading
+pub mod Beginnings
+pub mod Breaks
+pub mod ByReading
+pub mod Computing
