@@ -8,3 +8,4 @@ pub mod Format
 pub mod Exact
 pub mod Layout
 pub mod Spelling
+pub mod Canonical
