@@ -12,16 +12,20 @@ use Rattle.dets_term.specs.TermValue.{TermValue, integer, atom, tuple, mapping, 
 abbrev pub head : ℕ → ℕ → ℕ → List ℕ
 head tag size n = tag ∷ bytes_high_first size n
 
--- the fewest bytes of a magnitude, the lowest first, where so many are enough
-abbrev pub magnitude_bytes : ℕ → ℕ → List ℕ
-magnitude_bytes zero m = []
-magnitude_bytes (suc most) m = cond (m == 0) [] (m % 256 ∷ magnitude_bytes most (m / 256))
+-- the bytes of a number without zeros at its high end, the lowest first, where so many are enough
+abbrev pub low_bytes : ℕ → ℕ → List ℕ
+low_bytes zero m = []
+low_bytes (suc most) m = cond (m == 0) [] (m % 256 ∷ low_bytes most (m / 256))
+
+-- the fewest bytes of a magnitude, of which an integer of 128 bits needs at most 16
+unfoldable pub magnitude_bytes : ℕ → List ℕ
+magnitude_bytes m = low_bytes 16 m
 
 -- ---- terms without parts
 
 -- a sign and a magnitude, SMALL_BIG_EXT: the sign is 0, or 1 where the integer is negative
 abbrev pub big_spelling : ℕ → ℕ → List ℕ
-big_spelling sign m = 110 ∷ length (magnitude_bytes 16 m) ∷ sign ∷ magnitude_bytes 16 m
+big_spelling sign m = 110 ∷ length (magnitude_bytes m) ∷ sign ∷ magnitude_bytes m
 
 -- SMALL_INTEGER_EXT for a byte, INTEGER_EXT for the other numbers of 32 bits in two's complement
 abbrev pub integer_spelling : ℤ → List ℕ

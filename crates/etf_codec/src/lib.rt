@@ -3,7 +3,9 @@
 //! Stands on `dets_term`, and on `bstr` for UTF-8.
 #![tactic(auto)]
 
+pub use encoding::encode;
 pub use fault::EtfFault;
 pub use std::alloc::AllocError as Memory;
 
+mod encoding;
 mod fault;
