@@ -11,7 +11,7 @@ use std::marker::Model;
 #[cycle(term)]
 #[derive(Drop)]
 pub struct TermList {
-    items: Vec<Term>,
+    pub(crate) items: Vec<Term>,
     // the greatest depth among them, 0 where there is none
     levels: u32,
 }
@@ -57,6 +57,18 @@ impl TermList {
     {
         let levels = self.levels.max(item.depth());
         self.items.push(item)?;
+        self.levels = levels;
+        Ok(())
+    }
+
+    /// Puts the terms of another list last, in order. After `Memory` the list is as it was.
+    pub(crate) fn append(&mut self, other: TermList) -> Result<(), Memory>
+        ensures ok { OnOk result (self.new ≡ self.old ++ other) }
+        ensures err { OnErr result (self.new ≡ self.old) }
+    {
+        let levels = self.levels.max(other.levels);
+        let mut items = other.items;
+        self.items.append(&mut items)?;
         self.levels = levels;
         Ok(())
     }
