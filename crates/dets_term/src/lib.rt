@@ -25,6 +25,7 @@ mod kind;
 mod laws;
 mod order;
 mod pair_list;
+pub mod rows;
 mod term;
 mod term_list;
 #[cfg(test)]
