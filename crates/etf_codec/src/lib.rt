@@ -9,3 +9,4 @@ pub use std::alloc::AllocError as Memory;
 
 mod encoding;
 mod fault;
+pub mod laws;
