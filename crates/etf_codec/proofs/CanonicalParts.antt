@@ -30,7 +30,7 @@ integer_spelling-big (negsuc n) large =
 
 -- ---- atoms
 
-length-encodes-le : (cs : List ℕ) → length (encode_utf8_all cs) ≤ 4 * length cs
+pub length-encodes-le : (cs : List ℕ) → length (encode_utf8_all cs) ≤ 4 * length cs
 length-encodes-le [] = omega arith
 length-encodes-le (c ∷ cs) =
     let first = length-encode c in

@@ -12,7 +12,7 @@ use Rattle.etf_codec.proofs.Packing.{length-bytes-le}
 
 -- ---- what a list ends in
 
-canonical_each-not_list : (t : TermValue) → is_list t ≡ false → canonical_each t ≡ []
+pub canonical_each-not_list : (t : TermValue) → is_list t ≡ false → canonical_each t ≡ []
 canonical_each-not_list (integer z) e = refl
 canonical_each-not_list (atom name) e = refl
 canonical_each-not_list (tuple parts) e = refl
@@ -21,7 +21,7 @@ canonical_each-not_list nil e = cc
 canonical_each-not_list (cons first rest) e = cc
 canonical_each-not_list (bits bs) e = refl
 
-canonical_end-not_list : (t : TermValue) → is_list t ≡ false → canonical_end t ≡ canonical t
+pub canonical_end-not_list : (t : TermValue) → is_list t ≡ false → canonical_end t ≡ canonical t
 canonical_end-not_list (integer z) e = refl
 canonical_end-not_list (atom name) e = refl
 canonical_end-not_list (tuple parts) e = refl

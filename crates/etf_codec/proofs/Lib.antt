@@ -1,8 +1,12 @@
 -- Lemmas that several proofs share.
-pub mod Magnitudes
+pub mod FewestBytes
 pub mod Packing
 pub mod CanonicalParts
 pub mod CanonicalWholes
+pub mod WholeFormats
+pub mod WholeLeaves
+pub mod WholeTerms
+pub mod CanonicalSpells
 pub mod Exactness
 pub mod SpellingExact
 pub mod Sharpness

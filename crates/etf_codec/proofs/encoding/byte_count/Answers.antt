@@ -1,5 +1,5 @@
 use Rattle.std.proofs.Common.{◌∙◌, arith}
-use Rattle.etf_codec.proofs.Magnitudes.{byte_count-is}
+use Rattle.etf_codec.proofs.FewestBytes.{byte_count-is}
 use Rattle.etf_codec.proofs.encoding.byte_count.Goals as goal
 
 pub returns-clause-value : goal.returns-clause-value

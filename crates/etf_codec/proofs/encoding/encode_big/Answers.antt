@@ -1,5 +1,5 @@
 use Rattle.std.proofs.Common.{append_assoc}
-use Rattle.etf_codec.proofs.Magnitudes.{magnitude_bytes-front}
+use Rattle.etf_codec.proofs.FewestBytes.{magnitude_bytes-front}
 use Rattle.etf_codec.proofs.encoding.encode_big.Goals as goal
 
 pub returns : goal.returns
