@@ -1,18 +1,17 @@
 -- Bytes that are whole in a format that is put together, from those that are whole in its parts.
-use Rattle.std.proofs.Common.{◌≡◌, ℕ, zero, suc, ◌+◌, ◌-◌, ◌*◌, ◌/◌, ◌%◌, ◌^◌, ◌<◌, ◌≤◌, ◌⊎◌, inl, inr, ⊎_elim, Bool, true, false, cond, ◌==◌, nat_le, List, [], ◌∷◌, ◌++◌, length, refl, sym, ap, ◌∙◌, subst, arith, append_assoc}
+use Rattle.std.proofs.Common.{◌≡◌, ℕ, zero, suc, ◌+◌, ◌*◌, ◌/◌, ◌%◌, ◌^◌, ◌<◌, ◌≤◌, ⊎_elim, Bool, true, false, cond, ◌==◌, nat_le, List, [], ◌∷◌, ◌++◌, length, refl, sym, ap, ◌∙◌, subst, arith}
 use Rattle.std.specs.List.{flat_map, AllByRecursion}
 use Rattle.std.specs.Int.{byte_at, bytes_high_first}
 use Rattle.std.proofs.lemmas.List.{append-nil}
 use Rattle.std.proofs.lemmas.Bool.{eq-eqb, le-leb, cases_eq}
 use Rattle.std.proofs.Math.Nat.{pow-succ', zero-div}
-use Rattle.etf_codec.specs.declared.fault.EtfFault.{EtfFault}
 use Rattle.etf_codec.specs.declared.fault.EtfFault.TheVariants.{Depth, IntegerRange}
-use Rattle.etf_codec.specs.Format.{Format, byte, give, followed, tested, changed, times}
+use Rattle.etf_codec.specs.Format.{Format, byte, followed, tested, changed, times}
 use Rattle.etf_codec.specs.Spelling.{number, number_after, sized, count_after, magnitude_after, big_integer}
 use Rattle.etf_codec.specs.Layout.{signed, limit}
 use Rattle.dets_term.specs.TermValue.{integer}
 use Rattle.etf_codec.specs.Canonical.{low_bytes, magnitude_bytes}
-use Rattle.etf_codec.proofs.FewestBytes.{low_bytes-zero, low_bytes-more}
+use Rattle.etf_codec.proofs.FewestBytes.{low_bytes-more}
 
 pub whole_at : {A : Type 0} (F : Format A) (x y : A) (bytes cs : List ℕ) → x ≡ y → bytes ≡ cs → F.Whole x bytes → F.Whole y cs
 whole_at F x y bytes cs e f w = subst (λ z. F.Whole z cs) e (subst (λ b. F.Whole x b) f w)
@@ -105,15 +104,15 @@ magnitude_whole zero limit weight seen m fits low = let z : m ≡ 0 = omega arit
 magnitude_whole (suc most) limit weight seen m fits low =
     ⊎_elim (λ z. none_left limit weight seen m (low_bytes (suc most) m) z (ap (low_bytes (suc most)) z))
     (λ some.
-      let grown = pow-succ' 256 most in
-      let split = split_weight weight seen m in
-      let here : seen + weight * (m % 256) ≤ limit = omega arith in
-      let rest = magnitude_whole most limit (256 * weight) (seen + weight * (m % 256)) (m / 256) (omega arith) (omega arith) in
-      subst (λ b. (magnitude_after limit weight seen (length b)).Whole (seen + weight * m) b) (sym (low_bytes-more most m (omega arith)))
-      (followed_whole (tested byte (λ x. nat_le (seen + weight * x) limit) (λ term x. IntegerRange term))
-        (λ x. magnitude_after limit (256 * weight) (seen + weight * x) (length (low_bytes most (m / 256)))) (m % 256) (seen + weight * m) (m % 256 ∷ []) (low_bytes most (m / 256))
-        (refl, le-leb (seen + weight * (m % 256)) limit here)
-        (whole_at (magnitude_after limit (256 * weight) (seen + weight * (m % 256)) (length (low_bytes most (m / 256)))) _ (seen + weight * m) _ _ split refl rest)))
+    let grown = pow-succ' 256 most in
+    let split = split_weight weight seen m in
+    let here : seen + weight * (m % 256) ≤ limit = omega arith in
+    let rest = magnitude_whole most limit (256 * weight) (seen + weight * (m % 256)) (m / 256) (omega arith) (omega arith) in
+    subst (λ b. (magnitude_after limit weight seen (length b)).Whole (seen + weight * m) b) (sym (low_bytes-more most m (omega arith)))
+    (followed_whole (tested byte (λ x. nat_le (seen + weight * x) limit) (λ term x. IntegerRange term))
+    (λ x. magnitude_after limit (256 * weight) (seen + weight * x) (length (low_bytes most (m / 256)))) (m % 256) (seen + weight * m) (m % 256 ∷ []) (low_bytes most (m / 256))
+    (refl, le-leb (seen + weight * (m % 256)) limit here)
+    (whole_at (magnitude_after limit (256 * weight) (seen + weight * (m % 256)) (length (low_bytes most (m / 256)))) _ (seen + weight * m) _ _ split refl rest)))
     (cases_eq m 0)
 
 pub magnitude_bytes_whole : (limit m : ℕ) → m < 2 ^ 128 → m ≤ limit → (magnitude_after limit 1 0 (length (magnitude_bytes m))).Whole m (magnitude_bytes m)
@@ -127,7 +126,7 @@ big_whole sign m bytes w =
     followed_whole (number 1) (λ n. followed byte (λ sign. changed (magnitude_after (limit sign) 1 0 n) (λ m. integer (signed sign m)))) (length bytes) (integer (signed sign m)) (length bytes ∷ []) (sign ∷ bytes)
     (number_one (length bytes))
     (followed_whole byte (λ sign. changed (magnitude_after (limit sign) 1 0 (length bytes)) (λ m. integer (signed sign m))) sign (integer (signed sign m)) (sign ∷ []) bytes refl
-      (changed_whole (magnitude_after (limit sign) 1 0 (length bytes)) (λ m. integer (signed sign m)) m bytes w))
+    (changed_whole (magnitude_after (limit sign) 1 0 (length bytes)) (λ m. integer (signed sign m)) m bytes w))
 
 -- ---- terms one after another
 

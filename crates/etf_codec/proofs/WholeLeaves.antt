@@ -1,5 +1,5 @@
 -- The canonical spelling of integers, atoms and bit strings spells them.
-use Rattle.std.proofs.Common.{◌≡◌, ℕ, zero, suc, ◌+◌, ◌-◌, ◌*◌, ◌/◌, ◌%◌, ◌^◌, ◌<◌, ◌≤◌, ℤ, pos, Bool, true, false, cond, ◌&&◌, ◌==◌, nat_lt, nat_le, List, [], ◌∷◌, ◌++◌, length, ◌⊎◌, inl, inr, ⊎_elim, refl, sym, ap, ◌∙◌, subst, arith}
+use Rattle.std.proofs.Common.{◌≡◌, ℕ, suc, ◌-◌, ◌*◌, ◌%◌, ◌^◌, ◌<◌, ◌≤◌, ℤ, pos, Bool, true, false, nat_lt, nat_le, List, [], ◌∷◌, ◌++◌, length, ⊎_elim, refl, sym, ap, ◌∙◌, subst, arith}
 use Rattle.std.specs.Prelude.{negsuc}
 use Rattle.std.specs.Int.{bytes_high_first, w128}
 use Rattle.std.specs.Int.RustNames.{FitsSigned}
@@ -13,8 +13,7 @@ use Rattle.etf_codec.specs.declared.fault.EtfFault.TheVariants.{BadAtom, BadBits
 use Rattle.etf_codec.specs.Format.{Format, byte, followed, tested, changed, times}
 use Rattle.etf_codec.specs.Layout.{is_known, begins_tail, signed_32, signed, limit, characters, is_name, may_use}
 use Rattle.etf_codec.specs.Spelling.{number, sized, big_integer, name, binary, bit_binary, body}
-use Rattle.etf_codec.specs.Canonical.{head, magnitude_bytes, low_bytes, big_spelling, integer_spelling, text_head, text_spelling, atom_spelling, packed, bits_spelling}
-use Rattle.etf_codec.proofs.FewestBytes.{low_bytes-size}
+use Rattle.etf_codec.specs.Canonical.{head, magnitude_bytes, big_spelling, integer_spelling, atom_spelling, packed, bits_spelling}
 use Rattle.etf_codec.proofs.Packing.{packed-size, bits_of-packed}
 use Rattle.etf_codec.proofs.CanonicalParts.{length-encodes-le}
 use Rattle.etf_codec.proofs.WholeFormats.{value_after, whole_at, followed_whole, changed_whole, number_whole, sized_whole, times_byte_whole, big_whole, magnitude_bytes_whole, value-1, value-2, value-4}
@@ -36,20 +35,32 @@ module _ (part tail : Format TermValue) (levels : ℕ) where
 
   small : (n : ℕ) → Tagged part tail levels (integer (pos n)) (97 ∷ n ∷ [])
   small n = record {
-    tag = 97; rest = n ∷ []; same = refl; known = refl; ends = λ e. refl;
+    tag = 97;
+    rest = n ∷ [];
+    same = refl;
+    known = refl;
+    ends = λ e. refl;
     inside = changed_whole byte (λ x. integer (pos x)) n (n ∷ []) refl;
   }
 
   word : (n : ℕ) (z : ℤ) → n < 2 ^ 32 → signed_32 n ≡ z → Tagged part tail levels (integer z) (head 98 4 n)
   word n z h e = record {
-    tag = 98; rest = bytes_high_first 4 n; same = refl; known = refl; ends = λ e. refl;
+    tag = 98;
+    rest = bytes_high_first 4 n;
+    same = refl;
+    known = refl;
+    ends = λ e. refl;
     inside = whole_at (changed (number 4) (λ n. integer (signed_32 n))) _ (integer z) _ _ (ap integer e) refl
-      (changed_whole (number 4) (λ n. integer (signed_32 n)) n (bytes_high_first 4 n) (number_whole 4 n (value-4 n h)));
+        (changed_whole (number 4) (λ n. integer (signed_32 n)) n (bytes_high_first 4 n) (number_whole 4 n (value-4 n h)));
   }
 
   big : (sign m : ℕ) (z : ℤ) → m ≤ limit sign → m < 2 ^ 128 → signed sign m ≡ z → Tagged part tail levels (integer z) (big_spelling sign m)
   big sign m z within fits e = record {
-    tag = 110; rest = length (magnitude_bytes m) ∷ sign ∷ magnitude_bytes m; same = refl; known = refl; ends = λ e. refl;
+    tag = 110;
+    rest = length (magnitude_bytes m) ∷ sign ∷ magnitude_bytes m;
+    same = refl;
+    known = refl;
+    ends = λ e. refl;
     inside = whole_at (big_integer 1) (integer (signed sign m)) (integer z) _ _ (ap integer e) refl (big_whole sign m (magnitude_bytes m) (magnitude_bytes_whole (limit sign) m fits within));
   }
 
@@ -58,15 +69,15 @@ module _ (part tail : Format TermValue) (levels : ℕ) where
       let magnitude : n < 2 ^ 127 = fits.sfits in
       ⊎_elim (λ h. tagged_at part tail levels (integer (pos n)) _ _ (sym (cond-true _ _ _ (le-leb n 255 (omega arith)))) (small n))
       (λ h. tagged_at part tail levels (integer (pos n)) _ _ (sym (cond-false _ _ _ (lt-leb n 255 h)))
-        (⊎_elim (λ k. tagged_at part tail levels (integer (pos n)) _ _ (sym (cond-true _ _ _ (lt-ltb n (2 ^ 31) k)))
-            (word n (pos n) (omega arith) (cond-true (nat_lt n (2 ^ 31)) _ _ (lt-ltb n (2 ^ 31) k))))
-          (λ k. tagged_at part tail levels (integer (pos n)) _ _ (sym (cond-false _ _ _ (le-ltb n (2 ^ 31) k))) (big 0 n (pos n) (omega arith) (omega arith) refl))
-          (cases_lt n (2 ^ 31))))
+      (⊎_elim (λ k. tagged_at part tail levels (integer (pos n)) _ _ (sym (cond-true _ _ _ (lt-ltb n (2 ^ 31) k)))
+      (word n (pos n) (omega arith) (cond-true (nat_lt n (2 ^ 31)) _ _ (lt-ltb n (2 ^ 31) k))))
+      (λ k. tagged_at part tail levels (integer (pos n)) _ _ (sym (cond-false _ _ _ (le-ltb n (2 ^ 31) k))) (big 0 n (pos n) (omega arith) (omega arith) refl))
+      (cases_lt n (2 ^ 31))))
       (cases_lt n 256)
   integer_tagged (negsuc n) fits =
       let magnitude : n < 2 ^ 127 = fits.sfits in
       ⊎_elim (λ k. tagged_at part tail levels (integer (negsuc n)) _ _ (sym (cond-true _ _ _ (lt-ltb n (2 ^ 31) k)))
-          (word (2 ^ 32 - suc n) (negsuc n) (omega arith) (cond-false (nat_lt (2 ^ 32 - suc n) (2 ^ 31)) _ _ (le-ltb (2 ^ 32 - suc n) (2 ^ 31) (omega arith)) ∙ omega (arith, ints))))
+      (word (2 ^ 32 - suc n) (negsuc n) (omega arith) (cond-false (nat_lt (2 ^ 32 - suc n) (2 ^ 31)) _ _ (le-ltb (2 ^ 32 - suc n) (2 ^ 31) (omega arith)) ∙ omega (arith, ints))))
       (λ k. tagged_at part tail levels (integer (negsuc n)) _ _ (sym (cond-false _ _ _ (le-ltb n (2 ^ 31) k))) (big 1 (suc n) (negsuc n) (omega arith) (omega arith) refl))
       (cases_lt n (2 ^ 31))
 
@@ -75,9 +86,13 @@ module _ (part tail : Format TermValue) (levels : ℕ) where
   text : (size tag : ℕ) (bytes : List ℕ) → is_known tag ≡ true → begins_tail tag ≡ true → value_after 0 size (length bytes) ≡ length bytes → is_name true bytes ≡ true
       → ((body part tail levels tag) ≡ name true size) → Tagged part tail levels (atom (chars bytes)) (head tag size (length bytes) ++ bytes)
   text size tag bytes known ends fits good is = record {
-    tag = tag; rest = bytes_high_first size (length bytes) ++ bytes; same = refl; known = known; ends = λ e. ends;
+    tag = tag;
+    rest = bytes_high_first size (length bytes) ++ bytes;
+    same = refl;
+    known = known;
+    ends = λ e. ends;
     inside = subst (λ (F : Format TermValue). F.Whole (atom (chars bytes)) (bytes_high_first size (length bytes) ++ bytes)) (sym is)
-      (changed_whole (tested (sized size) (is_name true) (λ term bytes. BadAtom term)) (λ bytes. atom (characters true bytes)) bytes (bytes_high_first size (length bytes) ++ bytes)
+        (changed_whole (tested (sized size) (is_name true) (λ term bytes. BadAtom term)) (λ bytes. atom (characters true bytes)) bytes (bytes_high_first size (length bytes) ++ bytes)
         (sized_whole size bytes fits, good));
   }
 
@@ -90,10 +105,10 @@ module _ (part tail : Format TermValue) (levels : ℕ) where
       let good : is_name true bytes ≡ true = and_from (is_utf8 bytes) (nat_le (length (chars bytes)) 255) utf8 (ap (λ cs. nat_le (length cs) 255) back ∙ le-leb (length name) 255 short) in
       subst (λ cs. Tagged part tail levels (atom cs) (atom_spelling name)) back
       (⊎_elim (λ h. tagged_at part tail levels (atom (chars bytes)) _ _ (ap (λ b. b ++ bytes) (sym (cond-true _ _ _ (le-leb (length bytes) 255 (omega arith)))))
-          (text 1 119 bytes refl refl (value-1 (length bytes) (omega arith)) good refl))
-        (λ h. tagged_at part tail levels (atom (chars bytes)) _ _ (ap (λ b. b ++ bytes) (sym (cond-false _ _ _ (lt-leb (length bytes) 255 h))))
-          (text 2 118 bytes refl refl (value-2 (length bytes) (omega arith)) good refl))
-        (cases_lt (length bytes) 256))
+      (text 1 119 bytes refl refl (value-1 (length bytes) (omega arith)) good refl))
+      (λ h. tagged_at part tail levels (atom (chars bytes)) _ _ (ap (λ b. b ++ bytes) (sym (cond-false _ _ _ (lt-leb (length bytes) 255 h))))
+      (text 2 118 bytes refl refl (value-2 (length bytes) (omega arith)) good refl))
+      (cases_lt (length bytes) 256))
 
   -- ---- bit strings
 
@@ -106,18 +121,26 @@ module _ (part tail : Format TermValue) (levels : ℕ) where
       let n = length (packed bs) in
       let used = length bs % 8 in
       ⊎_elim (λ z. tagged_at part tail levels (bits bs) _ _ (sym (cond-true _ _ _ (eq-eqb used 0 z))) (record {
-          tag = 109; rest = bytes_high_first 4 n ++ bytes; same = refl; known = refl; ends = λ e. refl;
-          inside = whole_at binary _ (bits bs) _ _ (ap bits (bits_of-packed bs 8 (omega arith) (omega arith) (omega arith))) refl
+        tag = 109;
+        rest = bytes_high_first 4 n ++ bytes;
+        same = refl;
+        known = refl;
+        ends = λ e. refl;
+        inside = whole_at binary _ (bits bs) _ _ (ap bits (bits_of-packed bs 8 (omega arith) (omega arith) (omega arith))) refl
             (changed_whole (sized 4) (λ bytes. bits (bits_of bytes 8)) bytes (bytes_high_first 4 n ++ bytes) (sized_whole 4 bytes (value-4 n (omega arith))));
-        }))
+      }))
       (λ some. tagged_at part tail levels (bits bs) _ _ (sym (cond-false _ _ _ (ne_eqb used 0 some))) (record {
-          tag = 77; rest = bytes_high_first 4 n ++ (used ∷ bytes); same = refl; known = refl; ends = λ e. refl;
-          inside = whole_at bit_binary (bits (bits_of bytes used)) (bits bs) _ _ (ap bits (bits_of-packed bs used (omega arith) (omega arith) (omega arith))) refl
+        tag = 77;
+        rest = bytes_high_first 4 n ++ (used ∷ bytes);
+        same = refl;
+        known = refl;
+        ends = λ e. refl;
+        inside = whole_at bit_binary (bits (bits_of bytes used)) (bits bs) _ _ (ap bits (bits_of-packed bs used (omega arith) (omega arith) (omega arith))) refl
             (followed_whole (number 4) (λ n. followed (tested byte (may_use n) (λ term x. BadBits term)) (λ used. changed (times n byte) (λ bytes. bits (bits_of bytes used))))
-              n (bits (bits_of bytes used)) (bytes_high_first 4 n) (used ∷ bytes) (number_whole 4 n (value-4 n (omega arith)))
-              (followed_whole (tested byte (may_use n) (λ term x. BadBits term)) (λ used. changed (times n byte) (λ bytes. bits (bits_of bytes used)))
-                used (bits (bits_of bytes used)) (used ∷ []) bytes
-                (refl, and_from _ _ (le-leb 1 n (omega arith)) (and_from _ _ (le-leb 1 used (omega arith)) (le-leb used 8 (omega arith))))
-                (changed_whole (times n byte) (λ bytes. bits (bits_of bytes used)) bytes bytes (times_byte_whole bytes))));
-        }))
+            n (bits (bits_of bytes used)) (bytes_high_first 4 n) (used ∷ bytes) (number_whole 4 n (value-4 n (omega arith)))
+            (followed_whole (tested byte (may_use n) (λ term x. BadBits term)) (λ used. changed (times n byte) (λ bytes. bits (bits_of bytes used)))
+            used (bits (bits_of bytes used)) (used ∷ []) bytes
+            (refl, and_from _ _ (le-leb 1 n (omega arith)) (and_from _ _ (le-leb 1 used (omega arith)) (le-leb used 8 (omega arith))))
+            (changed_whole (times n byte) (λ bytes. bits (bits_of bytes used)) bytes bytes (times_byte_whole bytes))));
+      }))
       (cases_eq used 0)

@@ -1,14 +1,14 @@
 -- The canonical spelling of tuples, lists and maps spells them where that of their parts does.
-use Rattle.std.proofs.Common.{◌≡◌, ℕ, zero, suc, ◌+◌, ◌*◌, ◌^◌, ◌<◌, ◌≤◌, Bool, true, false, cond, not, ◌&&◌, ◌==◌, nat_le, List, [], ◌∷◌, ◌++◌, length, map, max, ◌⊎◌, inl, inr, ⊎_elim, refl, sym, ap, ◌∙◌, subst, arith, append_assoc}
-use Rattle.std.specs.List.{flat_map, zip, list_any, list_all, AllByRecursion}
+use Rattle.std.proofs.Common.{◌≡◌, ℕ, zero, suc, ◌^◌, ◌<◌, ◌≤◌, true, false, not, ◌==◌, List, [], ◌∷◌, ◌++◌, length, map, ⊎_elim, refl, sym, ap, ◌∙◌, subst, arith, append_assoc}
+use Rattle.std.specs.List.{flat_map, list_any, list_all, AllByRecursion}
 use Rattle.std.specs.Int.{bytes_high_first}
 use Rattle.std.specs.declared.cmp.Ordering.TheVariants.{Less}
 use Rattle.std.specs.Ordering.{is_eq, ordering_reverse}
-use Rattle.std.proofs.lemmas.Bool.{cond-true, cond-false, le-leb, lt-leb, eq-eqb, ne_eqb, and_parts, or_from, not_from_false, cases_lt}
+use Rattle.std.proofs.lemmas.Bool.{cond-true, cond-false, le-leb, lt-leb, ne_eqb, and_parts, or_from, not_from_false, cases_lt}
 use Rattle.std.proofs.lemmas.List.{append-nil, length-map, map-append}
 use Rattle.std.proofs.lemmas.List.Sorted.{IsPermutation-refl}
 use Rattle.std.specs.Prelude.{pos, negsuc}
-use Rattle.dets_term.specs.TermValue.{TermValue, integer, atom, tuple, mapping, nil, cons, bits, chain, map_of, is_list, depth}
+use Rattle.dets_term.specs.TermValue.{TermValue, integer, atom, tuple, mapping, nil, cons, bits, chain, map_of, is_list}
 use Rattle.dets_term.specs.Order.{order, is_same}
 use Rattle.dets_term.specs.OrderCode.{order_total}
 use Rattle.dets_term.specs.IsTerm.{AreAscending}
@@ -16,9 +16,9 @@ use Rattle.dets_term.specs.Pairs.{keys, by_key}
 use Rattle.dets_term.specs.Parts.{deepest, deepest_of_pairs}
 use Rattle.dets_term.proofs.PairSorts.{all_above, ascending_is_by_key}
 use Rattle.etf_codec.specs.declared.fault.EtfFault.TheVariants.{RepeatedKey}
-use Rattle.etf_codec.specs.Format.{Format, byte, give, followed, tested, framed, changed, times, either}
-use Rattle.etf_codec.specs.Layout.{is_known, begins_tail, integers}
-use Rattle.etf_codec.specs.Spelling.{may_have_parts, count, tuple_of, list_of, no_tail, string, pairs_after, map_format, body}
+use Rattle.etf_codec.specs.Format.{Format, byte, followed, tested, framed, changed, times, either}
+use Rattle.etf_codec.specs.Layout.{integers}
+use Rattle.etf_codec.specs.Spelling.{may_have_parts, count, tuple_of, no_tail, pairs_after}
 use Rattle.etf_codec.specs.Canonical.{canonical, head, tuple_head, is_byte, byte_value}
 use Rattle.etf_codec.proofs.WholeFormats.{value_after, whole_at, followed_whole, changed_whole, MayCount, count_whole, times_byte_whole, times_whole, value-1, value-2, value-4}
 use Rattle.etf_codec.proofs.WholeLeaves.{Tagged, tagged_at}
@@ -82,13 +82,21 @@ module _ (part tail : Format TermValue) (levels : ℕ) where
   tuple_tagged ts fits may all =
       let n = length ts in
       ⊎_elim (λ h. tagged_at part tail levels (tuple (chain ts nil)) _ _ (ap (λ b. b ++ flat_map canonical ts) (sym (cond-true _ _ _ (le-leb n 255 (omega arith))))) (record {
-          tag = 104; rest = bytes_high_first 1 n ++ flat_map canonical ts; same = refl; known = refl; ends = λ e. refl;
-          inside = tuple_whole 1 ts (value-1 n (omega arith)) may all;
-        }))
+        tag = 104;
+        rest = bytes_high_first 1 n ++ flat_map canonical ts;
+        same = refl;
+        known = refl;
+        ends = λ e. refl;
+        inside = tuple_whole 1 ts (value-1 n (omega arith)) may all;
+      }))
       (λ h. tagged_at part tail levels (tuple (chain ts nil)) _ _ (ap (λ b. b ++ flat_map canonical ts) (sym (cond-false _ _ _ (lt-leb n 255 h)))) (record {
-          tag = 105; rest = bytes_high_first 4 n ++ flat_map canonical ts; same = refl; known = refl; ends = λ e. refl;
-          inside = tuple_whole 4 ts (value-4 n fits) may all;
-        }))
+        tag = 105;
+        rest = bytes_high_first 4 n ++ flat_map canonical ts;
+        same = refl;
+        known = refl;
+        ends = λ e. refl;
+        inside = tuple_whole 4 ts (value-4 n fits) may all;
+      }))
       (cases_lt n 256)
 
   pub string_tagged : (ts : List TermValue) (t : TermValue) → chain ts nil ≡ t → is_list t ≡ true → length ts ≤ 65535 → list_all is_byte ts ≡ true → MayCount (may_have_parts levels) (length ts)
@@ -97,10 +105,14 @@ module _ (part tail : Format TermValue) (levels : ℕ) where
       let n = length ts in
       let bytes = map byte_value ts in
       record {
-        tag = 107; rest = bytes_high_first 2 n ++ bytes; same = refl; known = refl; ends = λ other. cc;
+        tag = 107;
+        rest = bytes_high_first 2 n ++ bytes;
+        same = refl;
+        known = refl;
+        ends = λ other. cc;
         inside = followed_whole (count levels 2) (λ n. changed (times n byte) integers) n t (bytes_high_first 2 n) bytes
-          (count_whole (may_have_parts levels) 2 n may (value-2 n (omega arith)))
-          (whole_at (changed (times n byte) integers) (integers bytes) t bytes bytes (integers-bytes ts all ∙ e) refl
+            (count_whole (may_have_parts levels) 2 n may (value-2 n (omega arith)))
+            (whole_at (changed (times n byte) integers) (integers bytes) t bytes bytes (integers-bytes ts all ∙ e) refl
             (changed_whole (times n byte) integers bytes bytes (subst (λ (k : ℕ). (times k byte).Whole bytes bytes) (length-map ts byte_value) (times_byte_whole bytes))));
       }
 
@@ -111,12 +123,16 @@ module _ (part tail : Format TermValue) (levels : ℕ) where
       let other : (n == 0) ≡ false = ne_eqb n 0 (λ z. omega arith) in
       let ended : (either (n == 0) no_tail tail).Whole end ending = subst (λ b. (either b no_tail tail).Whole end ending) (sym other) last in
       record {
-        tag = 108; rest = bytes_high_first 4 n ++ (flat_map canonical ts ++ ending); same = refl; known = refl; ends = λ other. cc;
+        tag = 108;
+        rest = bytes_high_first 4 n ++ (flat_map canonical ts ++ ending);
+        same = refl;
+        known = refl;
+        ends = λ other. cc;
         inside = followed_whole (count levels 4) (λ n. followed (times n part) (λ ts. changed (either (n == 0) no_tail tail) (λ end. chain ts end))) n t (bytes_high_first 4 n) (flat_map canonical ts ++ ending)
-          (count_whole (may_have_parts levels) 4 n may (value-4 n fits))
-          (followed_whole (times n part) (λ ts. changed (either (n == 0) no_tail tail) (λ end. chain ts end)) ts t (flat_map canonical ts) ending (times_whole part canonical ts all)
+            (count_whole (may_have_parts levels) 4 n may (value-4 n fits))
+            (followed_whole (times n part) (λ ts. changed (either (n == 0) no_tail tail) (λ end. chain ts end)) ts t (flat_map canonical ts) ending (times_whole part canonical ts all)
             (whole_at (changed (either (n == 0) no_tail tail) (λ end. chain ts end)) (chain ts end) t ending ending e refl
-              (changed_whole (either (n == 0) no_tail tail) (λ end. chain ts end) end ending ended)));
+            (changed_whole (either (n == 0) no_tail tail) (λ end. chain ts end) end ending ended)));
       }
 
   -- ---- maps
@@ -133,10 +149,10 @@ module _ (part tail : Format TermValue) (levels : ℕ) where
       let rest = pairs_whole (seen ++ p ∷ []) ps (subst (λ qs. AreAscending (keys qs)) (sym next) up) all.1 in
       whole_at (pairs_after part seen (suc (length ps))) (seen ++ p ∷ ps) (seen ++ p ∷ ps) _ _ refl (sym (append_assoc (canonical p.0) (canonical p.1) (flat_map spelled_pair ps)))
       (followed_whole (framed (tested part (λ k. not (list_any (is_same k) (keys seen))) (λ term k. RepeatedKey term)))
-        (λ k. followed part (λ v. pairs_after part (seen ++ (k, v) ∷ []) (length ps))) p.0 (seen ++ p ∷ ps) (canonical p.0) (canonical p.1 ++ flat_map spelled_pair ps)
-        (all.0.0, not_from_false _ new)
-        (followed_whole part (λ v. pairs_after part (seen ++ (p.0, v) ∷ []) (length ps)) p.1 (seen ++ p ∷ ps) (canonical p.1) (flat_map spelled_pair ps) all.0.1
-          (whole_at (pairs_after part (seen ++ p ∷ []) (length ps)) ((seen ++ p ∷ []) ++ ps) (seen ++ p ∷ ps) _ _ next refl rest)))
+      (λ k. followed part (λ v. pairs_after part (seen ++ (k, v) ∷ []) (length ps))) p.0 (seen ++ p ∷ ps) (canonical p.0) (canonical p.1 ++ flat_map spelled_pair ps)
+      (all.0.0, not_from_false _ new)
+      (followed_whole part (λ v. pairs_after part (seen ++ (p.0, v) ∷ []) (length ps)) p.1 (seen ++ p ∷ ps) (canonical p.1) (flat_map spelled_pair ps) all.0.1
+      (whole_at (pairs_after part (seen ++ p ∷ []) (length ps)) ((seen ++ p ∷ []) ++ ps) (seen ++ p ∷ ps) _ _ next refl rest)))
 
   pub map_tagged : (ps : List (TermValue × TermValue)) → length ps < 2 ^ 32 → MayCount (may_have_parts levels) (length ps) → AreAscending (keys ps) → AllByRecursion (λ p. IsPart p.0 × IsPart p.1) ps
       → Tagged part tail levels (map_of ps) (head 116 4 (length ps) ++ flat_map spelled_pair ps)
@@ -144,9 +160,13 @@ module _ (part tail : Format TermValue) (levels : ℕ) where
       let n = length ps in
       let sorted = (ascending_is_by_key ps ps (IsPermutation-refl ps) up).1 in
       record {
-        tag = 116; rest = bytes_high_first 4 n ++ flat_map spelled_pair ps; same = refl; known = refl; ends = λ e. refl;
+        tag = 116;
+        rest = bytes_high_first 4 n ++ flat_map spelled_pair ps;
+        same = refl;
+        known = refl;
+        ends = λ e. refl;
         inside = followed_whole (count levels 4) (λ n. changed (pairs_after part [] n) (λ pairs. map_of (by_key pairs))) n (map_of ps) (bytes_high_first 4 n) (flat_map spelled_pair ps)
-          (count_whole (may_have_parts levels) 4 n may (value-4 n fits))
-          (whole_at (changed (pairs_after part [] n) (λ pairs. map_of (by_key pairs))) (map_of (by_key ps)) (map_of ps) _ _ (ap map_of sorted) refl
+            (count_whole (may_have_parts levels) 4 n may (value-4 n fits))
+            (whole_at (changed (pairs_after part [] n) (λ pairs. map_of (by_key pairs))) (map_of (by_key ps)) (map_of ps) _ _ (ap map_of sorted) refl
             (changed_whole (pairs_after part [] n) (λ pairs. map_of (by_key pairs)) ps (flat_map spelled_pair ps) (pairs_whole [] ps up all)));
       }

@@ -1,8 +1,6 @@
 //! Laws of spellings, parts and breaks, as contracts of functions that do nothing.
-ghost use Rattle.std.specs.Prelude.{◌≡◌, ℕ, ◌+◌, ◌⊎◌, List, [], ◌∷◌, ◌++◌};
+ghost use Rattle.std.specs.Prelude.{◌≡◌, ℕ, ◌+◌, ◌⊎◌, List, [], ◌++◌};
 ghost use Rattle.dets_term.specs.TermValue.{TermValue};
-ghost use Rattle.dets_term.specs.IsTerm.{IsTerm};
-ghost use Rattle.etf_codec.specs.Canonical.{canonical};
 ghost use Rattle.etf_codec.specs.declared.fault.EtfFault.{EtfFault};
 ghost use Rattle.etf_codec.specs.Moved.{moved};
 ghost use Rattle.etf_codec.specs.Sharp.{OneMore};
@@ -49,9 +47,4 @@ pub fn breaks_move_with_the_offset_at_which_bytes_begin()
     ensures kept { (start n : ℕ) (bytes : List ℕ) (fault : EtfFault) → IsBreak start bytes fault → IsBreak (start + n) bytes (moved n fault) }
     ensures no_others { (start n : ℕ) (bytes : List ℕ) (fault : EtfFault) → IsBreak (start + n) bytes fault
         → (f : EtfFault) × (fault ≡ moved n f) × IsBreak start bytes f }
-{}
-
-/// The canonical spelling of a term spells it.
-pub fn the_canonical_spelling_spells_its_term()
-    ensures { (t : TermValue) → IsTerm t → Spells t (131 ∷ canonical t) }
 {}

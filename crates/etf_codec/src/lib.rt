@@ -8,5 +8,6 @@ pub use fault::EtfFault;
 pub use std::alloc::AllocError as Memory;
 
 mod encoding;
+pub mod encoding_laws;
 mod fault;
 pub mod laws;
