@@ -1,11 +1,11 @@
 -- The order of lists in the two steps in which the code finds it.
-use Rattle.std.proofs.Common.{◌≡◌, ℕ, ◌+◌, ◌<◌, ◌≤◌, min, true, false, List, [], ◌∷◌, map, length, get_or, drop, refl, ap, ◌∙◌, sym, arith, inl, inr}
+use Rattle.std.proofs.Common.{◌≡◌, ℕ, ◌+◌, ◌<◌, ◌≤◌, ◌⊎◌, min, true, false, List, [], ◌∷◌, map, length, get_or, drop, refl, ap, ◌∙◌, sym, arith, inl, inr}
 use Rattle.std.specs.declared.cmp.Ordering.{Ordering}
 use Rattle.std.specs.declared.cmp.Ordering.TheVariants.{Less, Equal, Greater}
 use Rattle.std.specs.Ordering.{nat_cmp, ordering_then, match_ordering, is_ne, is_eq}
 use Rattle.std.proofs.lemmas.List.{drop_more, length-map}
 use Rattle.std.proofs.Math.ListN.{drop_of_length-le}
-use Rattle.std.proofs.lemmas.Bool.{cases_lt}
+use Rattle.std.proofs.lemmas.Bool.{cases_lt, cases_order}
 use Rattle.dets_term.specs.TermValue.{TermValue, integer, atom, tuple, mapping, nil, cons, bits, chain, map_of, is_list}
 use Rattle.dets_term.specs.Order.{order, rank, by_count}
 use Rattle.dets_term.specs.Orderings.{decided, undecided, then_assoc, then_equal, nat_cmp_self, nat_cmp-zero-suc, nat_cmp-suc-zero, nat_cmp-suc, nat_cmp-apart}
@@ -127,19 +127,48 @@ keys_count ps = length-map ps (λ p. p.0)
 values_count : (ps : List (TermValue × TermValue)) → length (values_of ps) ≡ length ps
 values_count ps = length-map ps (λ p. p.1)
 
-pub order-maps_differ : (ps qs : List (TermValue × TermValue)) → (length ps ≡ length qs → ⊥) → order (map_of ps) (map_of qs) ≡ nat_cmp (length ps) (length qs)
+order-maps_differ : (ps qs : List (TermValue × TermValue)) → (length ps ≡ length qs → ⊥) → order (map_of ps) (map_of qs) ≡ nat_cmp (length ps) (length qs)
 order-maps_differ ps qs d =
     ap (λ o. ordering_then o (ordering_then (order (chain (keys_of ps) nil) (chain (keys_of qs) nil)) (order (chain (values_of ps) nil) (chain (values_of qs) nil))))
     (counts (keys_of ps) (keys_of qs) ∙ (λ i. nat_cmp (keys_count ps i) (keys_count qs i)))
     ∙ decided _ _ (nat_cmp-apart (length ps) (length qs) d)
 
-pub order-maps : (ps qs : List (TermValue × TermValue)) → length ps ≡ length qs
+order-maps : (ps qs : List (TermValue × TermValue)) → length ps ≡ length qs
     → order (map_of ps) (map_of qs) ≡ ordering_then (front_order (keys_of ps) (keys_of qs)) (front_order (values_of ps) (values_of qs))
 order-maps ps qs e =
     let keys = keys_count ps ∙ e ∙ sym (keys_count qs) in
     let values = values_count ps ∙ e ∙ sym (values_count qs) in
     ap (λ o. ordering_then o (ordering_then (order (chain (keys_of ps) nil) (chain (keys_of qs) nil)) (order (chain (values_of ps) nil) (chain (values_of qs) nil)))) (as_many (keys_of ps) (keys_of qs) keys)
     ∙ (λ i. ordering_then (order-as_long (keys_of ps) (keys_of qs) keys i) (order-as_long (values_of ps) (values_of qs) values i))
+
+apart : (m n : ℕ) → (m < n) ⊎ (n < m) → m ≡ n → ⊥
+apart m n h e = elim h [
+  | inl k ↦ omega arith
+  | inr k ↦ omega arith
+]
+
+-- by size, then by keys, then by values
+pub order-maps_by_steps : (ps qs : List (TermValue × TermValue))
+    → order (map_of ps) (map_of qs) ≡ ordering_then (ordering_then (nat_cmp (length ps) (length qs)) (front_order (keys_of ps) (keys_of qs))) (front_order (values_of ps) (values_of qs))
+order-maps_by_steps ps qs =
+    elim (cases_order (length ps) (length qs)) [
+      | inl e ↦
+          order-maps ps qs e
+          ∙ ap (λ o. ordering_then (ordering_then o (front_order (keys_of ps) (keys_of qs))) (front_order (values_of ps) (values_of qs)))
+          (sym (ap (λ n. nat_cmp (length ps) n) (sym e) ∙ nat_cmp_self (length ps)))
+      | inr d ↦
+          let by_size = nat_cmp-apart (length ps) (length qs) (apart (length ps) (length qs) d) in
+          order-maps_differ ps qs (apart (length ps) (length qs) d)
+          ∙ sym (decided (nat_cmp (length ps) (length qs)) (ordering_then (front_order (keys_of ps) (keys_of qs)) (front_order (values_of ps) (values_of qs))) by_size)
+          ∙ sym (then_assoc (nat_cmp (length ps) (length qs)) (front_order (keys_of ps) (keys_of qs)) (front_order (values_of ps) (values_of qs)))
+    ]
+
+-- the sizes alone decide where they differ, and not where they are equal
+pub by_size_alone : (m n : ℕ) (o p : Ordering) → o ≡ nat_cmp m n → (m ≡ n → ⊥) → o ≡ ordering_then (nat_cmp m n) p
+by_size_alone m n o p e d = e ∙ sym (decided (nat_cmp m n) p (nat_cmp-apart m n d))
+
+pub past_size : (m n : ℕ) (o : Ordering) → m ≡ n → o ≡ ordering_then (nat_cmp m n) o
+past_size m n o e = ap (λ p. ordering_then p o) (sym (ap (λ k. nat_cmp m k) (sym e) ∙ nat_cmp_self m))
 
 -- ---- one place after another
 

@@ -29,9 +29,6 @@ pub fn cmp(a: &Term, b: &Term) -> Ordering
             }
         }
         (Node::Map(pairs), Node::Map(others)) => {
-            if pairs.len() != others.len() {
-                return pairs.len().cmp(&others.len());
-            }
             let by_keys = cmp_keys(pairs, others);
             if by_keys.is_ne() {
                 by_keys
@@ -116,11 +113,14 @@ fn cmp_ends(parts: &TermList, end: u8, others: &TermList, other_end: u8) -> Orde
     }
 }
 
-/// The order of two lists of pairs by their keys.
+/// The order of two maps by their sizes and then by their keys.
 #[cycle(compare)]
 fn cmp_keys(pairs: &PairList, others: &PairList) -> Ordering
-    ensures { result ≡ front_order (keys_of pairs.now) (keys_of others.now) }
+    ensures { result ≡ ordering_then (nat_cmp (length pairs.now) (length others.now)) (front_order (keys_of pairs.now) (keys_of others.now)) }
 {
+    if pairs.len() != others.len() {
+        return pairs.len().cmp(&others.len());
+    }
     for place in 0..pairs.len().min(others.len()) {
         let here = cmp(&pairs.items[place].0, &others.items[place].0);
         if here.is_ne() {
@@ -130,7 +130,7 @@ fn cmp_keys(pairs: &PairList, others: &PairList) -> Ordering
     Ordering::Equal
 }
 
-/// The order of two lists of pairs by their values.
+/// The order of two maps by their values, as far as both have some.
 #[cycle(compare)]
 fn cmp_values(pairs: &PairList, others: &PairList) -> Ordering
     ensures { result ≡ front_order (values_of pairs.now) (values_of others.now) }

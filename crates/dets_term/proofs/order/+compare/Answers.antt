@@ -8,20 +8,14 @@ use Rattle.dets_term.specs.Order.{order, rank}
 use Rattle.dets_term.specs.Fronts.{front_order, ends_order, values_of}
 use Rattle.dets_term.specs.Node.{shown, IsSound}
 use Rattle.dets_term.specs.Orderings.{decided, undecided}
-use Rattle.dets_term.proofs.Fronts.{order-proper, order-proper-improper, order-improper-proper, order-improper_ends, order-improper_longer, order-improper_fronts, order-tuples, order-tuples_differ, order-maps, order-maps_differ, front_decided, front_goes_on, front_all, mapped_decided, mapped_goes_on, mapped_all}
+use Rattle.dets_term.proofs.Fronts.{by_size_alone, past_size, order-proper, order-proper-improper, order-improper-proper, order-improper_ends, order-improper_longer, order-improper_fronts, order-tuples, order-tuples_differ, order-maps_by_steps, front_decided, front_goes_on, front_all, mapped_decided, mapped_goes_on, mapped_all}
 use Rattle.dets_term.proofs.NodeKinds.{kind, order-kinds, not_int, not_atom, not_tuple, not_map, not_list, not_bits}
 use Rattle.dets_term.proofs.order.+compare.Goals as goal
-use Rattle.dets_term.proofs.order.+compare.Goals.{cmp-in_default-via-in-Int+in_default, cmp-in_default-via-in-Atom+in_default, cmp-in_default-via-in-Tuple+in_default, cmp-in_default-via-in-Map+in_default, cmp-in_default-via-in-List+in_default, cmp-in_default-via-in-Improper+in_default, cmp-in_default-via-in-Bits+in_default, cmp-else-is_eq-via-then-is_eq+else-len-3, cmp-else-is_eq-via-else-is_eq}
+use Rattle.dets_term.proofs.order.+compare.Goals.{cmp-in_default-via-in-Int+in_default, cmp-in_default-via-in-Atom+in_default, cmp-in_default-via-in-Tuple+in_default, cmp-in_default-via-in-Map+in_default, cmp-in_default-via-in-List+in_default, cmp-in_default-via-in-Improper+in_default, cmp-in_default-via-in-Bits+in_default, cmp-else-is_eq-via-then-is_eq+else-len-2, cmp-else-is_eq-via-else-is_eq}
 
 -- what two nodes show is ordered as their terms are
 terms : {a b : TermValue} {m n : Node} (x y : Node) → shown m ≡ a → shown n ≡ b → m ≡ x → n ≡ y → order (shown x) (shown y) ≡ order a b
 terms x y va vb em en i = order ((ap shown (sym em) ∙ va) i) ((ap shown (sym en) ∙ vb) i)
-
-pub cmp-returns-then-len-2 : goal.cmp-returns-then-len-2
-cmp-returns-then-len-2 t c =
-    c.cmp-then-len-2.ensures ∙ (λ i. nat_cmp (c.len-then-len-2.ensures i) (c.len-then-len-2-2.ensures i))
-    ∙ sym (order-maps_differ c.in-Map-Map.pairs c.in-Map-Map.others (let d = c.if-len-2.true in λ e. d (c.len-in-Map-Map.ensures ∙ e ∙ sym c.len-in-Map-Map-2.ensures)))
-    ∙ terms _ _ c.a.view_is c.b.view_is c.in-Map-Map.is-0 c.in-Map-Map.is-1
 
 pub cmp-returns-then-len : goal.cmp-returns-then-len
 cmp-returns-then-len t c =
@@ -39,7 +33,7 @@ pub cmp-returns-then-is_ne : goal.cmp-returns-then-is_ne
 cmp-returns-then-is_ne t c =
     sym (decided c.cmp_keys-by_keys.result _ (sym c.is_ne.ensures ∙ c.if-is_ne.true))
     ∙ ap (λ o. ordering_then o (front_order (values_of c.in-Map-Map.pairs) (values_of c.in-Map-Map.others))) c.cmp_keys-by_keys.ensures
-    ∙ sym (order-maps c.in-Map-Map.pairs c.in-Map-Map.others (sym c.len-in-Map-Map.ensures ∙ c.if-len-2.false ∙ c.len-in-Map-Map-2.ensures))
+    ∙ sym (order-maps_by_steps c.in-Map-Map.pairs c.in-Map-Map.others)
     ∙ terms _ _ c.a.view_is c.b.view_is c.in-Map-Map.is-0 c.in-Map-Map.is-1
 
 pub cmp-returns-else-is_ne : goal.cmp-returns-else-is_ne
@@ -47,7 +41,7 @@ cmp-returns-else-is_ne t c =
     c.cmp_values.ensures
     ∙ sym (undecided c.cmp_keys-by_keys.result _ (sym c.is_ne.ensures ∙ c.if-is_ne.false))
     ∙ ap (λ o. ordering_then o (front_order (values_of c.in-Map-Map.pairs) (values_of c.in-Map-Map.others))) c.cmp_keys-by_keys.ensures
-    ∙ sym (order-maps c.in-Map-Map.pairs c.in-Map-Map.others (sym c.len-in-Map-Map.ensures ∙ c.if-len-2.false ∙ c.len-in-Map-Map-2.ensures))
+    ∙ sym (order-maps_by_steps c.in-Map-Map.pairs c.in-Map-Map.others)
     ∙ terms _ _ c.a.view_is c.b.view_is c.in-Map-Map.is-0 c.in-Map-Map.is-1
 
 pub cmp-returns-in-List-List : goal.cmp-returns-in-List-List
@@ -72,13 +66,13 @@ cmp-returns-in-Improper-List t c =
     ∙ sym (order-improper-proper c.in-Improper-List.parts c.in-Improper-List.others c.in-Improper-List.tail.value sound.1)
     ∙ terms _ _ c.a.view_is c.b.view_is c.in-Improper-List.is-0 c.in-Improper-List.is-1
 
-pub cmp-returns-then-len-3 : goal.cmp-returns-then-len-3
-cmp-returns-then-len-3 t c =
+pub cmp-returns-then-len-2 : goal.cmp-returns-then-len-2
+cmp-returns-then-len-2 t c =
     let first = subst IsSound c.in-Improper-Improper.is-0 c.a.invariant.2 in
     let second = subst IsSound c.in-Improper-Improper.is-1 c.b.invariant.2 in
-    c.cmp-then-len-3.ensures ∙ (λ i. order (c.deref-then-len-3.ensures i) (c.deref-then-len-3-2.ensures i))
+    c.cmp-then-len-2.ensures ∙ (λ i. order (c.deref-then-len-2.ensures i) (c.deref-then-len-2-2.ensures i))
     ∙ sym (order-improper_ends c.in-Improper-Improper.parts c.in-Improper-Improper.others c.in-Improper-Improper.tail.value c.in-Improper-Improper.other_tail.value first.1 second.1
-    (sym c.len-then-is_eq.ensures ∙ c.if-len-3.true ∙ c.len-then-is_eq-2.ensures) (ap is_eq (sym c.cmp_fronts-by_fronts.ensures) ∙ sym c.is_eq.ensures ∙ c.if-is_eq.true))
+    (sym c.len-then-is_eq.ensures ∙ c.if-len-2.true ∙ c.len-then-is_eq-2.ensures) (ap is_eq (sym c.cmp_fronts-by_fronts.ensures) ∙ sym c.is_eq.ensures ∙ c.if-is_eq.true))
     ∙ terms _ _ c.a.view_is c.b.view_is c.in-Improper-Improper.is-0 c.in-Improper-Improper.is-1
 
 pub cmp-returns-else-is_eq : goal.cmp-returns-else-is_eq
@@ -90,9 +84,9 @@ cmp-returns-else-is_eq t c =
     let whole : order (chain c.in-Improper-Improper.parts x) (chain c.in-Improper-Improper.others y)
     ≡ ordering_then (front_order c.in-Improper-Improper.parts c.in-Improper-Improper.others) (ends_order (length c.in-Improper-Improper.parts) (rank x) (length c.in-Improper-Improper.others) (rank y)) =
     elim c.else-is_eq.branch [
-      | cmp-else-is_eq-via-then-is_eq+else-len-3 w ↦
+      | cmp-else-is_eq-via-then-is_eq+else-len-2 w ↦
           order-improper_longer c.in-Improper-Improper.parts c.in-Improper-Improper.others x y first.1 second.1
-          (let d = w.if-len-3.false in λ e. d (w.len-then-is_eq.ensures ∙ e ∙ sym w.len-then-is_eq-2.ensures))
+          (let d = w.if-len-2.false in λ e. d (w.len-then-is_eq.ensures ∙ e ∙ sym w.len-then-is_eq-2.ensures))
       | cmp-else-is_eq-via-else-is_eq w ↦
           order-improper_fronts c.in-Improper-Improper.parts c.in-Improper-Improper.others x y first.1 second.1
           (ap is_eq (sym c.cmp_fronts-by_fronts.ensures) ∙ sym c.is_eq.ensures ∙ w.if-is_eq.false)
@@ -144,12 +138,19 @@ cmp_fronts-loop-place-preserved t c =
 pub cmp_fronts-returns : goal.cmp_fronts-returns
 cmp_fronts-returns t c = sym (c.loop-place.invariant ∙ front_all c.args.parts.now c.args.others.now c.loop-place.place (omega arith))
 
+pub cmp_keys-returns-then-len : goal.cmp_keys-returns-then-len
+cmp_keys-returns-then-len t c =
+    let d = c.if-len.true in
+    by_size_alone (length c.args.pairs.now) (length c.args.others.now) c.cmp.result _ (c.cmp.ensures ∙ (λ i. nat_cmp (c.len-then-len.ensures i) (c.len-then-len-2.ensures i)))
+    (λ e. d (c.len.ensures ∙ e ∙ sym c.len-2.ensures))
+
 pub cmp_keys-returns-then-is_ne : goal.cmp_keys-returns-then-is_ne
 cmp_keys-returns-then-is_ne t c =
     sym (c.loop-place.invariant ∙ mapped_decided (λ p. p.0) c.args.pairs.now c.args.others.now c.loop-place.place c.index.result.now c.index-in-loop-place.result.now c.cmp-here.result (omega arith) (omega arith)
     (c.index.ensures ∙ ap (λ xs. get_or xs c.loop-place.place c.index.result.now) c.pairs.view_is)
     (c.index-in-loop-place.ensures ∙ ap (λ xs. get_or xs c.loop-place.place c.index-in-loop-place.result.now) c.others.view_is)
     c.cmp-here.ensures (sym c.is_ne.ensures ∙ c.if-is_ne.true))
+    ∙ past_size (length c.args.pairs.now) (length c.args.others.now) _ (sym c.len.ensures ∙ c.if-len.false ∙ c.len-2.ensures)
 
 pub cmp_keys-loop-place-preserved : goal.cmp_keys-loop-place-preserved
 cmp_keys-loop-place-preserved t c =
@@ -159,7 +160,9 @@ cmp_keys-loop-place-preserved t c =
     c.cmp-here.ensures (sym c.is_ne.ensures ∙ c.if-is_ne.false)
 
 pub cmp_keys-returns : goal.cmp_keys-returns
-cmp_keys-returns t c = sym (c.loop-place.invariant ∙ mapped_all (λ p. p.0) c.args.pairs.now c.args.others.now c.loop-place.place (omega arith))
+cmp_keys-returns t c =
+    sym (c.loop-place.invariant ∙ mapped_all (λ p. p.0) c.args.pairs.now c.args.others.now c.loop-place.place (omega arith))
+    ∙ past_size (length c.args.pairs.now) (length c.args.others.now) _ (sym c.len.ensures ∙ c.if-len.false ∙ c.len-2.ensures)
 
 pub cmp_values-returns-then-is_ne : goal.cmp_values-returns-then-is_ne
 cmp_values-returns-then-is_ne t c =
