@@ -14,4 +14,5 @@ pub mod SpellingSharp
 pub mod Moving
 pub mod SpellingMoves
 pub mod Fronts
-pub mod Rows
+pub mod ByReading
+pub mod Computing

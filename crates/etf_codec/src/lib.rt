@@ -11,3 +11,4 @@ mod encoding;
 pub mod encoding_laws;
 mod fault;
 pub mod laws;
+pub mod rows;
