@@ -249,3 +249,6 @@ fn encode_string(out: &mut ByteList, parts: &TermList) -> Result<(), Memory>
     }
     Ok(())
 }
+
+#[cfg(test)]
+mod tests;
