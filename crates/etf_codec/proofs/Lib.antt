@@ -1,5 +1,13 @@
 -- Lemmas that several proofs share.
 pub mod Kept
+pub mod FewestBytes
+pub mod Packing
+pub mod CanonicalParts
+pub mod CanonicalWholes
+pub mod WholeFormats
+pub mod WholeLeaves
+pub mod WholeTerms
+pub mod CanonicalSpells
 pub mod Exactness
 pub mod Sharpness
 pub mod Moving

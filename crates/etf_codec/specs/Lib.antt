@@ -14,5 +14,6 @@ pub mod Skipping
 pub mod Machine
 pub mod Reads
 pub mod Answers
+pub mod Canonical
 pub mod Fronts
 pub mod Moved
