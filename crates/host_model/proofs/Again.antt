@@ -1,12 +1,12 @@
 -- The calls that a log kept, a part at a time.
-use Rattle.std.proofs.Common.{◌≡◌, ◌<◌, ◌≤◌, ◌+◌, ◌∙◌, ℕ, true, List, [], ◌∷◌, ◌++◌, map, reverse, length, get_or, take, drop, sym, ap, refl, subst, arith}
-use Rattle.std.proofs.lemmas.List.{map-append, reverse-append, take_more, take-append-drop, drop-append-le, append_assoc, length-take-le}
+use Rattle.std.proofs.Common.{◌≡◌, ◌<◌, ◌≤◌, ◌+◌, ◌∙◌, ℕ, true, List, [], ◌∷◌, ◌++◌, map, reverse, length, get_or, take, drop, sym, ap, refl, subst}
+use Rattle.std.proofs.lemmas.List.{map-append, reverse-append, take_more, take-append-drop}
 use Rattle.std.proofs.lemmas.Bool.{and_from, and_parts, le-leb, leb-true}
-use Rattle.host_model.specs.Disk.{are_bytes, written_at}
-use Rattle.host_model.specs.Calls.{Call, file_after, said_after, synced_after, unsynced, is_possible}
+use Rattle.host_model.specs.Disk.{written_at}
+use Rattle.host_model.specs.Calls.{Call, file_after, said_after, is_possible}
 use Rattle.host_model.specs.Calls.Call.{Wrote, Synced, Put}
 use Rattle.host_model.specs.CallLaws.{file_bytes}
-use Rattle.host_model.specs.Log.{newest_first, call_of, written}
+use Rattle.host_model.specs.Log.{newest_first, call_of}
 use Rattle.host_model.specs.declared.log.Kept.{Kept}
 
 pub newest_first-append : (xs ys : List Kept) → newest_first (xs ++ ys) ≡ newest_first ys ++ newest_first xs

@@ -1,11 +1,11 @@
 -- The calls that a log keeps, as contracts see them.
-use Rattle.std.proofs.Common.{◌≡◌, ◌<◌, ◌≤◌, ◌∙◌, ℕ, true, List, [], ◌∷◌, ◌++◌, map, reverse, length, get_or, take, sym, ap, refl, subst, arith, Fits, w8}
+use Rattle.std.proofs.Common.{◌≡◌, ◌≤◌, ◌∙◌, ℕ, true, List, [], ◌∷◌, ◌++◌, map, reverse, length, get_or, sym, ap, subst, arith, Fits, w8}
 use Rattle.std.proofs.lemmas.List.{map-append, reverse-append}
 use Rattle.std.proofs.lemmas.Bool.{and_from, le-leb}
 use Rattle.host_model.specs.Disk.{are_bytes, written_at}
 use Rattle.host_model.specs.Torn.{are_bytes-from}
-use Rattle.host_model.specs.Calls.{Call, file_after, said_after, is_possible}
-use Rattle.host_model.specs.Calls.Call.{Wrote, Synced, Put}
+use Rattle.host_model.specs.Calls.{file_after, said_after, is_possible}
+use Rattle.host_model.specs.Calls.Call.{Wrote}
 use Rattle.host_model.specs.Log.{newest_first, call_of, IsKept}
 use Rattle.host_model.specs.declared.log.Kept.{Kept}
 

@@ -1,13 +1,11 @@
 -- The calls up to a stop, as a log keeps them.
-use Rattle.std.proofs.Common.{◌≡◌, ◌<◌, ◌≤◌, ◌+◌, ◌-◌, ◌∙◌, ℕ, Bool, true, false, List, [], ◌∷◌, ◌++◌, map, reverse, length, get_or, take, drop, sym, ap, refl, subst, ⊎_elim, min, arith, Option, Some, None, length-append, zero-add}
+use Rattle.std.proofs.Common.{◌≡◌, ◌<◌, ◌≤◌, ◌+◌, ◌-◌, ◌∙◌, ℕ, List, [], ◌∷◌, ◌++◌, map, length, get_or, take, drop, sym, ap, refl, ⊎_elim, min, arith, Some, None, length-append}
 use Rattle.std.proofs.lemmas.Bool.{cases_lt, le-ltb, lt-ltb, eq-eqb, ne_eqb}
-use Rattle.std.proofs.lemmas.List.{take_more, take-take, drop-take, drop-append-le, take_all, length-take-le, length-map, length-reverse, take-append-drop, append_assoc, drop_more}
-use Rattle.host_model.specs.Disk.{Range, range, furthest}
-use Rattle.host_model.specs.Host.{Left}
-use Rattle.host_model.specs.Calls.{Call, file_after, said_after, synced_after, unsynced, is_possible, ranges_of}
+use Rattle.std.proofs.lemmas.List.{take_more, take-take, drop-take, drop-append-le, take_all, length-take-le, length-map, length-reverse}
+use Rattle.host_model.specs.Calls.{Call, file_after, said_after, synced_after, unsynced, ranges_of}
 use Rattle.host_model.specs.Calls.Call.{Wrote, Synced, Put}
 use Rattle.host_model.specs.Log.{newest_first, call_of, written}
-use Rattle.host_model.specs.Restart.{Moment, moment, onto, picked_image, image_at, output_at, pair_at}
+use Rattle.host_model.specs.Restart.{Moment, moment, onto, picked_image, image_at, output_at}
 use Rattle.host_model.specs.declared.log.Kept.{Kept}
 use Rattle.host_model.specs.declared.log.Kept.TheVariants.{Sync}
 use Rattle.host_model.specs.declared.restart.Pick.{Pick}

@@ -1,11 +1,11 @@
 -- Images that are patched range by range.
-use Rattle.std.proofs.Common.{◌≡◌, ◌<◌, ◌≤◌, ◌+◌, ◌-◌, ◌∙◌, ◌⊎◌, ◌||◌, ℕ, Bool, true, false, cond, max, List, [], ◌∷◌, ◌++◌, map, length, get_or, take, drop, slice_range, sym, ap, refl, subst, inl, inr, ⊎_elim, arith, length-take, length-drop}
+use Rattle.std.proofs.Common.{◌≡◌, ◌<◌, ◌≤◌, ◌+◌, ◌-◌, ◌∙◌, ◌||◌, ℕ, Bool, true, false, cond, List, [], ◌∷◌, ◌++◌, map, length, get_or, take, drop, sym, ap, refl, subst, ⊎_elim, arith, length-take, length-drop}
 use Rattle.std.specs.List.{range_with_len}
-use Rattle.std.proofs.lemmas.Bool.{cond-true, cond-false, cases_Bool, cases_lt, or_left, and_parts}
+use Rattle.std.proofs.lemmas.Bool.{cond-true, cases_Bool, or_left}
 use Rattle.std.proofs.lemmas.List.{ext_get_or, get_or-take, get_or-drop}
 use Rattle.std.proofs.lemmas.List.FromFn.{length-map-range_with_len, get_or-map-range_with_len}
 use Rattle.host_model.specs.Disk.{written_at, Range, range, is_in, in_doubt, furthest}
-use Rattle.host_model.specs.Torn.{is_in-true, is_in-false, is_in-parts, furthest-ge, length-written_at, get_or-written_below, get_or-written_in, get_or-written_above}
+use Rattle.host_model.specs.Torn.{is_in-false, is_in-parts, length-written_at, get_or-written_below, get_or-written_in, get_or-written_above}
 use Rattle.host_model.specs.Calls.{Call, file_after, is_possible}
 use Rattle.host_model.specs.Calls.Call.{Wrote, Synced, Put}
 use Rattle.host_model.specs.CallLaws.{possible_parts}

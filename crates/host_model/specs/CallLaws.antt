@@ -1,14 +1,14 @@
 -- What a host in memory shows is coherent, and goes on as a call says.
-use Rattle.std.specs.Prelude.{◌≡◌, ◌≤◌, ◌<◌, ◌+◌, ◌++◌, ◌&&◌, ◌⊎◌, ℕ, Bool, true, false, nat_le, List, [], ◌∷◌, length, take, Option, Some, None, IsTrue}
+use Rattle.std.specs.Prelude.{◌≡◌, ◌≤◌, ◌<◌, ◌++◌, ℕ, true, false, List, [], ◌∷◌, length, Some, None}
 use Rattle.std.proofs.Common.{arith, sym, ap, ◌∙◌, refl, subst, inl, inr, ⊎_elim, append-nil}
-use Rattle.std.proofs.lemmas.Bool.{leb-true, le-leb, and_from, or_parts, and_parts, cases_lt}
+use Rattle.std.proofs.lemmas.Bool.{leb-true, le-leb, or_parts, and_parts, cases_lt}
 use Rattle.std.proofs.lemmas.List.{take_all}
 use Rattle.std.proofs.lemmas.Option.{same_Some}
 use Rattle.std.proofs.Math.Bool.{and-true}
-use Rattle.host_model.specs.Disk.{are_bytes, written_at, Range, range, is_in, in_doubt, furthest, DiffersIn, IsImage, WhereTold}
+use Rattle.host_model.specs.Disk.{are_bytes, range, in_doubt, furthest, DiffersIn, IsImage}
 use Rattle.host_model.specs.Torn.{length-written_at, DiffersIn-written, DiffersIn-refl, DiffersIn-more, untouched, torn_last, are_bytes-written_at, is_in-false}
-use Rattle.host_model.specs.Host.{Left, Shown, IsCoherent, IsGrown, Tears, Stays, Says, Reached, Rests, Goes, Ticks}
-use Rattle.host_model.specs.Calls.{Call, file_after, said_after, synced_after, unsynced, is_possible, ranges_of, piece_of, LeftAfter, LeftSince}
+use Rattle.host_model.specs.Host.{Left, Shown, IsCoherent, IsGrown, Tears, Stays, Says, Reached, Rests, Goes}
+use Rattle.host_model.specs.Calls.{Call, file_after, said_after, synced_after, unsynced, is_possible, LeftAfter, LeftSince}
 use Rattle.host_model.specs.Calls.Call.{Wrote, Synced, Put}
 use Rattle.host_model.specs.MemHost.{MemHostState, shown_of, host_after, file_of}
 

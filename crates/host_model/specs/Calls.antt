@@ -1,6 +1,6 @@
 -- The calls that a host in memory has kept, newest first, and what a stop leaves after them or within the one that
 -- goes on. All of it is this project's own.
-use Rattle.std.specs.Prelude.{◌≡◌, ◌≤◌, ◌+◌, ◌++◌, ◌&&◌, ◌⊎◌, ℕ, Bool, nat_le, List, [], ◌∷◌, length, Option, Some, None, IsTrue}
+use Rattle.std.specs.Prelude.{◌≤◌, ◌+◌, ◌++◌, ◌&&◌, ◌⊎◌, ℕ, Bool, nat_le, List, [], ◌∷◌, length, Option, Some, None, IsTrue}
 use Rattle.host_model.specs.Disk.{Range, range, written_at, are_bytes, IsImage}
 use Rattle.host_model.specs.Host.{Left, IsGrown}
 

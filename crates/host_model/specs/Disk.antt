@@ -1,5 +1,5 @@
 -- What writes do to a file, and what a stop may make of them. All of it is this project's own.
-use Rattle.std.specs.Prelude.{◌≡◌, ◌≤◌, ◌<◌, ◌+◌, ◌++◌, ◌&&◌, ◌||◌, ℕ, Bool, false, max, nat_lt, nat_le, List, [], ◌∷◌, length, take, drop, slice_get, IsTrue, Option, Some, None}
+use Rattle.std.specs.Prelude.{◌≡◌, ◌≤◌, ◌+◌, ◌++◌, ◌&&◌, ◌||◌, ℕ, Bool, false, max, nat_lt, nat_le, List, [], ◌∷◌, length, take, drop, slice_get, IsTrue, Option, Some, None}
 use Rattle.std.specs.List.{list_all}
 
 -- whether each of them is a byte

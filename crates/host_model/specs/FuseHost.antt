@@ -1,7 +1,7 @@
 -- A host that stops serving after some calls, as contracts see it. All of it is this project's own.
-use Rattle.std.specs.Prelude.{◌≡◌, ℕ, ◌+◌, ◌-◌, ◌^◌, ◌==◌, min, if◌then◌else◌}
+use Rattle.std.specs.Prelude.{ℕ, ◌+◌, ◌-◌, ◌^◌, ◌==◌, min, if◌then◌else◌}
 use Rattle.host_model.specs.Counts.{raised}
-use Rattle.host_model.specs.Host.{Left, Shown, IsCoherent, Rests, Goes}
+use Rattle.host_model.specs.Host.{Shown, IsCoherent}
 use Rattle.host_model.specs.MemHost as mem
 use Rattle.host_model.specs.CallLaws as laws
 

@@ -1,6 +1,6 @@
 -- What a run of calls leaves at a stop: how calls compose. All of it is this project's own.
-use Rattle.std.specs.Prelude.{◌≡◌, ◌≤◌, ◌⊎◌, ◌++◌, ℕ, List, Some}
-use Rattle.std.proofs.Common.{arith, sym, ap, ◌∙◌, refl, subst, inl, inr, ⊎_elim}
+use Rattle.std.specs.Prelude.{◌≡◌, ◌++◌, ℕ, List, Some}
+use Rattle.std.proofs.Common.{arith, sym, ◌∙◌, refl, subst, inl, inr, ⊎_elim}
 use Rattle.host_model.specs.Disk.{Range, DiffersIn}
 use Rattle.host_model.specs.Torn.{DiffersIn-then}
 use Rattle.host_model.specs.Host.{Left, Shown, IsCoherent, Settled, Reached, TearsIn, Stays, Rests, Goes, LeavesOnly}

@@ -1,5 +1,5 @@
 -- The calls that a host in memory keeps, as its code holds them and as contracts see them. All of it is this project's own.
-use Rattle.std.specs.Prelude.{◌≡◌, ℕ, Bool, true, List, [], ◌∷◌, map, reverse, length}
+use Rattle.std.specs.Prelude.{◌≡◌, ℕ, true, List, [], ◌∷◌, map, reverse, length}
 use Rattle.host_model.specs.Host.{Left}
 use Rattle.host_model.specs.Disk.{Range, range}
 use Rattle.host_model.specs.Calls.{Call, file_after, said_after, is_possible}

@@ -1,9 +1,8 @@
 -- A host in memory, as contracts see it. All of it is this project's own.
-use Rattle.std.specs.Prelude.{ℕ, Bool, false, not, ◌||◌, List, [], ◌∷◌, ◌++◌, length, Option, Some, None}
+use Rattle.std.specs.Prelude.{ℕ, Bool, false, not, ◌||◌, List, [], ◌∷◌, length, Option, Some, None}
 use Rattle.host_model.specs.Counts.{following, is_listed, raised}
 use Rattle.host_model.specs.Host.{Left, Shown}
 use Rattle.host_model.specs.Calls.{Call, file_after, said_after, is_possible, LeftAfter, LeftSince}
-use Rattle.host_model.specs.Calls.Call.{Wrote, Synced, Put}
 
 pub record MemHostState : Type 0 where
   -- the file and the output that it began with

@@ -1,16 +1,16 @@
 -- What a restart takes is one pair of its moment.
-use Rattle.std.specs.Prelude.{◌≡◌, ◌≤◌, ◌<◌, ◌+◌, ◌/◌, ◌%◌, ◌^◌, ◌++◌, ◌==◌, ◌⊎◌, ℕ, Bool, true, false, cond, nat_lt, List, [], ◌∷◌, map, length, get_or, slice_get, Option, Some, None}
+use Rattle.std.specs.Prelude.{◌≡◌, ◌≤◌, ◌<◌, ℕ, true, false, cond, List, [], ◌∷◌, map, length, get_or, Option, Some, None}
 use Rattle.std.specs.List.{range_with_len}
-use Rattle.std.proofs.Common.{arith, sym, ap, ◌∙◌, refl, subst, inl, inr, ⊎_elim, append-nil}
-use Rattle.std.proofs.lemmas.Bool.{cond-true, cond-false, cases_Bool, cases_lt, cases_order, lt-ltb, le-ltb, eq-eqb, ne_eqb}
+use Rattle.std.proofs.Common.{arith, sym, ◌∙◌, refl, subst, inl, inr, ⊎_elim, append-nil}
+use Rattle.std.proofs.lemmas.Bool.{cond-false, cases_lt, cases_order, lt-ltb, le-ltb, eq-eqb, ne_eqb}
 use Rattle.std.proofs.lemmas.Option.{same_Some}
 use Rattle.std.proofs.lemmas.List.FromFn.{length-map-range_with_len, get_or-map-range_with_len}
-use Rattle.host_model.specs.Disk.{are_bytes, Range, range, in_doubt, furthest, DiffersIn, IsImage}
-use Rattle.host_model.specs.Torn.{get_same, get_past, furthest-ge, untouched, are_bytes-at, are_bytes-from}
+use Rattle.host_model.specs.Disk.{are_bytes, Range, in_doubt, furthest, IsImage}
+use Rattle.host_model.specs.Torn.{get_same, get_past, furthest-ge, untouched}
 use Rattle.host_model.specs.Host.{Left, IsGrown, Settled}
-use Rattle.host_model.specs.Calls.{Call, file_after, said_after, synced_after, unsynced, is_possible, ranges_of, piece_of, LeftAfter, LeftSince}
+use Rattle.host_model.specs.Calls.{Call, said_after, is_possible, LeftAfter, LeftSince}
 use Rattle.host_model.specs.Calls.Call.{Wrote, Synced, Put}
-use Rattle.host_model.specs.CallLaws.{no_gap, file_bytes, synced_bytes, grown_none, grown_whole, possible_parts}
+use Rattle.host_model.specs.CallLaws.{no_gap, grown_none, grown_whole, possible_parts}
 use Rattle.host_model.specs.Restart.{Moment, moment, onto, byte_picked, length_picked, picked_image, image_at, output_at, pair_at}
 use Rattle.host_model.specs.MemHost.{MemHostState, shown_of, pair_of, fresh_host}
 use Rattle.host_model.specs.declared.restart.Pick.{Pick}

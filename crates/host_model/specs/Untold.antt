@@ -1,5 +1,5 @@
 -- A host that does not tell its stops.
-use Rattle.std.specs.Prelude.{◌≡◌, ◌≤◌, ℕ, Bool, true, false, List, Option}
+use Rattle.std.specs.Prelude.{ℕ, false, List, Option}
 use Rattle.std.proofs.Common.{arith, refl}
 use Rattle.std.proofs.lemmas.Bool.{false≢true}
 use Rattle.host_model.specs.Host.{Left, Shown, IsCoherent, Goes}

@@ -170,10 +170,9 @@ pub(crate) fn output_after(
     ensures { IfOk result (λ v. v.items ≡ output_at pick first.now (moment at (newest_first calls.now))) }
 {
     let mut said = first.to_vec(alloc)?;
-    let end = if let Pick::Old = pick {
-        at
-    } else {
-        stop_end(calls, at)
+    let end = match pick {
+        Pick::Old => at,
+        _ => stop_end(calls, at),
     };
     say_again(&mut said, &calls[..end])?;
     Ok(said)

@@ -1,9 +1,8 @@
 -- The file is made again up to the last sync, and the calls since are possible there.
-use Rattle.std.proofs.Common.{◌≡◌, ◌≤◌, ◌+◌, ◌-◌, ◌∙◌, true, List, ap, sym, subst, length, take, drop, IfOk, rules, arith}
-use Rattle.std.proofs.lemmas.List.{length-take-le, take-take}
-use Rattle.host_model.specs.Calls.{file_after, synced_after, unsynced, is_possible}
-use Rattle.host_model.specs.Log.{newest_first, written}
-use Rattle.host_model.specs.Restart.{picked_image, image_at, moment}
+use Rattle.std.proofs.Common.{◌≡◌, ◌≤◌, ◌-◌, ◌∙◌, ap, subst, take, drop, IfOk, rules, arith}
+use Rattle.std.proofs.lemmas.List.{length-take-le}
+use Rattle.host_model.specs.Calls.{file_after, is_possible}
+use Rattle.host_model.specs.Log.{newest_first}
 use Rattle.host_model.proofs.Again.{possible_take, possible_drop}
 use Rattle.host_model.proofs.Moments.{image_is}
 use Rattle.host_model.proofs.restart.image_after.Goals as goal

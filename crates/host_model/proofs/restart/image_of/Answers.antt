@@ -1,6 +1,5 @@
 -- The patched image is the one that was picked.
-use Rattle.std.proofs.Common.{◌≡◌, ◌∙◌, ◌+◌, ap, sym, subst, length, rules, arith}
-use Rattle.std.proofs.lemmas.List.FromFn.{length-map-range_with_len}
+use Rattle.std.proofs.Common.{◌≡◌, ◌∙◌, ap, sym, subst, length, rules}
 use Rattle.host_model.specs.Disk.{furthest}
 use Rattle.host_model.specs.Calls.{file_after}
 use Rattle.host_model.specs.Log.{newest_first, written}

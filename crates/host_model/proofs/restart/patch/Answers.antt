@@ -1,5 +1,5 @@
 -- A write among the calls lies in the image so far and in the picked bytes, and is patched.
-use Rattle.std.proofs.Common.{◌≡◌, ◌≤◌, ◌<◌, ◌+◌, ◌-◌, ◌∙◌, ℕ, List, [], ◌∷◌, Vec, Global, vec_items, take, drop, refl, ap, sym, subst, length, get_or, rules, arith}
+use Rattle.std.proofs.Common.{◌≡◌, ◌+◌, ◌-◌, ◌∙◌, ℕ, [], ◌∷◌, Vec, Global, vec_items, take, drop, refl, ap, sym, subst, length, get_or, rules, arith}
 use Rattle.host_model.specs.Log.{call_of, newest_first, written}
 use Rattle.host_model.specs.Disk.{written_at}
 use Rattle.host_model.specs.Restart.{IsPatched}

@@ -1,5 +1,5 @@
 -- A write among the calls begins within the file.
-use Rattle.std.proofs.Common.{◌≡◌, ◌≤◌, ◌<◌, ◌∙◌, ap, sym, subst, length, get_or, rules, arith}
+use Rattle.std.proofs.Common.{◌≡◌, ◌≤◌, ◌∙◌, ap, sym, subst, length, get_or, arith}
 use Rattle.host_model.specs.Log.{call_of}
 use Rattle.host_model.specs.Calls.Call.{Wrote}
 use Rattle.host_model.proofs.Again.{possible_at}

@@ -1,5 +1,5 @@
 -- Nothing was called yet, and the file is bytes.
-use Rattle.std.proofs.Common.{◌≡◌, ◌∙◌, ap, true, [], rules}
+use Rattle.std.proofs.Common.{◌≡◌, ◌∙◌, ap, [], rules}
 use Rattle.host_model.specs.Disk.{are_bytes}
 use Rattle.host_model.specs.Calls.{is_possible}
 use Rattle.host_model.specs.Log.{newest_first}

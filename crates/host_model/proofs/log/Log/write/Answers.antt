@@ -1,6 +1,5 @@
 -- The write was kept.
-use Rattle.std.proofs.Common.{◌≡◌, ◌≤◌, ◌∙◌, ◌∷◌, ◌++◌, [], List, length, subst, sym, ap, rules}
-use Rattle.host_model.specs.Calls.{file_after}
+use Rattle.std.proofs.Common.{◌≡◌, ◌∷◌, ◌++◌, [], rules}
 use Rattle.host_model.specs.declared.log.Kept.{Kept}
 use Rattle.host_model.specs.declared.log.Kept.TheVariants.{Write}
 use Rattle.host_model.proofs.Kept.{IsKept-write, are_bytes-fit}

@@ -3,8 +3,8 @@ use Rattle.std.proofs.Common.{◌≡◌, ◌∙◌, ap, sym, rules, [], true, fa
 use Rattle.host_model.specs.Disk.{are_bytes}
 use Rattle.host_model.specs.Calls.{is_possible}
 use Rattle.host_model.specs.MemHost.{MemHostState, fresh_host}
-use Rattle.host_model.specs.Restart.{moment, image_at, pair_at}
-use Rattle.host_model.specs.RestartLaws.{restarted_at, restarted_since, restarted_settled, LeftAt}
+use Rattle.host_model.specs.Restart.{moment, pair_at}
+use Rattle.host_model.specs.RestartLaws.{restarted_at, restarted_since, restarted_settled}
 use Rattle.host_model.specs.contracts.mem_host.MemHost.{the_view}
 use Rattle.host_model.proofs.mem_host.MemHost.restart.Goals as goal
 
