@@ -67,7 +67,8 @@ impl Host for FuseHost {
     fn len(&mut self) -> Result<u64, DiskFailed>
         ensures blown { self.old.calls_left ≡ 0 → IsErr result }
         ensures listed { IsTrue (is_listed self.old.inner.next_call self.old.inner.fail) → IsErr result }
-        ensures only_then { IsErr result → (self.old.calls_left ≡ 0) ⊎ IsTrue (is_listed self.old.inner.next_call self.old.inner.fail) }
+        ensures only_then { IsErr result →
+            (self.old.calls_left ≡ 0) ⊎ IsTrue (is_listed self.old.inner.next_call self.old.inner.fail) }
         ensures length { IfOk result (λ n. n ≡ length (file_of self.old.inner)) }
         ensures ok { OnOk result (self.new ≡ fuse_after (host_after_len self.old.inner) self.old) }
         ensures err { OnErr result (self.new ≡ fuse_after_disk_fault self.old) }
@@ -84,7 +85,8 @@ impl Host for FuseHost {
         requires { at + length buf.old ≤ length (file_of self.old.inner) }
         ensures blown { self.old.calls_left ≡ 0 → IsErr result }
         ensures listed { IsTrue (is_listed self.old.inner.next_call self.old.inner.fail) → IsErr result }
-        ensures only_then { IsErr result → (self.old.calls_left ≡ 0) ⊎ IsTrue (is_listed self.old.inner.next_call self.old.inner.fail) }
+        ensures only_then { IsErr result →
+            (self.old.calls_left ≡ 0) ⊎ IsTrue (is_listed self.old.inner.next_call self.old.inner.fail) }
         ensures given { OnOk result (buf.new ≡ slice_range (file_of self.old.inner) at (at + length buf.old)) }
         ensures ok { OnOk result (self.new ≡ fuse_after (host_after_read self.old.inner) self.old) }
         ensures err { OnErr result (self.new ≡ fuse_after_disk_fault self.old) }

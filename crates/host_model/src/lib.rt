@@ -1,9 +1,12 @@
-//! Where the program meets the outside: a source that it reads, and a host that it writes to.
+//! Where the program meets the outside: a source that it reads, and a host of one file and one output.
 //!
 //! Stands on the standard library alone. Two traits say what a call does and when it fails: a failure
-//! comes only where the count of faults of that very object rose. `MemSource` and `MemHost` keep all in
-//! memory, tell what they hold, and fail exactly at the calls that they were told to fail at.
-//! `StdSource` and `FileHost` stand for the real standard input and output, and tell only their counts.
+//! comes only where the count of faults of that very object rose. `Host` also says what a stop at any
+//! moment may leave of the file and the output. `MemSource` and `MemHost` keep all in memory, tell what
+//! they hold, and fail exactly at the calls that they were told to fail at; `MemHost::restart` is what a
+//! program finds after a stop. `FuseHost` stops serving after some calls, `PerfectHost` fails for want of
+//! room alone. `StdSource` and `FileHost` stand for standard input and output and for a real file, and
+//! tell only their counts. `write_and_sync` is a small run of calls over any host.
 #![tactic(auto)]
 
 mod counts;

@@ -29,7 +29,8 @@ pub enum Pick {
 fn sync_point(calls: &[Kept]) -> usize
     ensures within { result ≤ length calls.now }
     ensures unsynced { unsynced (newest_first calls.now) ≡ written (newest_first (drop result calls.now)) }
-    ensures synced { (first : _) → synced_after first (newest_first calls.now) ≡ file_after first (newest_first (take result calls.now)) }
+    ensures synced { (first : _) → synced_after first (newest_first calls.now)
+        ≡ file_after first (newest_first (take result calls.now)) }
 {
     let mut since = 0;
     for (i, call) in calls.iter().enumerate() {
@@ -90,7 +91,8 @@ fn byte_or_zero(bytes: &[u8], k: usize) -> u8
 
 // What each byte of the file would be if it were in doubt.
 fn picked_bytes(alloc: Global, pick: Pick, synced: &[u8], file: &[u8]) -> Result<Vec<u8>, Memory>
-    ensures { IfOk result (λ v. v.items ≡ map (λ k. byte_picked pick k (slice_index synced.now k) (slice_index file.now k)) (range_with_len 0 (length file.now))) }
+    ensures { IfOk result (λ v. v.items ≡
+        map (λ k. byte_picked pick k (slice_index synced.now k) (slice_index file.now k)) (range_with_len 0 (length file.now))) }
 {
     let mut picked = Vec::with_capacity(alloc, file.len())?;
     for (k, new) in file.iter().enumerate() {
