@@ -9,7 +9,8 @@ use Rattle.std.proofs.lemmas.Bool.{cases_lt, cases_order}
 use Rattle.dets_term.specs.TermValue.{TermValue, integer, atom, tuple, mapping, nil, cons, bits, chain, map_of, is_list}
 use Rattle.dets_term.specs.Order.{order, rank, by_count}
 use Rattle.dets_term.specs.Orderings.{decided, undecided, then_assoc, then_equal, nat_cmp_self, nat_cmp-zero-suc, nat_cmp-suc-zero, nat_cmp-suc, nat_cmp-apart}
-use Rattle.dets_term.specs.Fronts.{front_order, ends_order, keys_of, values_of}
+use Rattle.dets_term.specs.Fronts.{front_order, ends_order, values}
+use Rattle.dets_term.specs.Pairs.{keys}
 use Rattle.dets_term.specs.Parts.{elements-chain}
 
 -- ---- values of two kinds
@@ -121,25 +122,25 @@ as_many ts us e = counts ts us ∙ ap (λ n. nat_cmp (length ts) n) (sym e) ∙ 
 pub order-tuples : (ts us : List TermValue) → length ts ≡ length us → order (tuple (chain ts nil)) (tuple (chain us nil)) ≡ front_order ts us
 order-tuples ts us e = ap (λ o. ordering_then o (order (chain ts nil) (chain us nil))) (as_many ts us e) ∙ order-as_long ts us e
 
-keys_count : (ps : List (TermValue × TermValue)) → length (keys_of ps) ≡ length ps
+keys_count : (ps : List (TermValue × TermValue)) → length (keys ps) ≡ length ps
 keys_count ps = length-map ps (λ p. p.0)
 
-values_count : (ps : List (TermValue × TermValue)) → length (values_of ps) ≡ length ps
+values_count : (ps : List (TermValue × TermValue)) → length (values ps) ≡ length ps
 values_count ps = length-map ps (λ p. p.1)
 
 order-maps_differ : (ps qs : List (TermValue × TermValue)) → (length ps ≡ length qs → ⊥) → order (map_of ps) (map_of qs) ≡ nat_cmp (length ps) (length qs)
 order-maps_differ ps qs d =
-    ap (λ o. ordering_then o (ordering_then (order (chain (keys_of ps) nil) (chain (keys_of qs) nil)) (order (chain (values_of ps) nil) (chain (values_of qs) nil))))
-    (counts (keys_of ps) (keys_of qs) ∙ (λ i. nat_cmp (keys_count ps i) (keys_count qs i)))
+    ap (λ o. ordering_then o (ordering_then (order (chain (keys ps) nil) (chain (keys qs) nil)) (order (chain (values ps) nil) (chain (values qs) nil))))
+    (counts (keys ps) (keys qs) ∙ (λ i. nat_cmp (keys_count ps i) (keys_count qs i)))
     ∙ decided _ _ (nat_cmp-apart (length ps) (length qs) d)
 
 order-maps : (ps qs : List (TermValue × TermValue)) → length ps ≡ length qs
-    → order (map_of ps) (map_of qs) ≡ ordering_then (front_order (keys_of ps) (keys_of qs)) (front_order (values_of ps) (values_of qs))
+    → order (map_of ps) (map_of qs) ≡ ordering_then (front_order (keys ps) (keys qs)) (front_order (values ps) (values qs))
 order-maps ps qs e =
-    let keys = keys_count ps ∙ e ∙ sym (keys_count qs) in
-    let values = values_count ps ∙ e ∙ sym (values_count qs) in
-    ap (λ o. ordering_then o (ordering_then (order (chain (keys_of ps) nil) (chain (keys_of qs) nil)) (order (chain (values_of ps) nil) (chain (values_of qs) nil)))) (as_many (keys_of ps) (keys_of qs) keys)
-    ∙ (λ i. ordering_then (order-as_long (keys_of ps) (keys_of qs) keys i) (order-as_long (values_of ps) (values_of qs) values i))
+    let as_many_keys = keys_count ps ∙ e ∙ sym (keys_count qs) in
+    let as_many_values = values_count ps ∙ e ∙ sym (values_count qs) in
+    ap (λ o. ordering_then o (ordering_then (order (chain (keys ps) nil) (chain (keys qs) nil)) (order (chain (values ps) nil) (chain (values qs) nil)))) (as_many (keys ps) (keys qs) as_many_keys)
+    ∙ (λ i. ordering_then (order-as_long (keys ps) (keys qs) as_many_keys i) (order-as_long (values ps) (values qs) as_many_values i))
 
 apart : (m n : ℕ) → (m < n) ⊎ (n < m) → m ≡ n → ⊥
 apart m n h e = elim h [
@@ -149,18 +150,18 @@ apart m n h e = elim h [
 
 -- by size, then by keys, then by values
 pub order-maps_by_steps : (ps qs : List (TermValue × TermValue))
-    → order (map_of ps) (map_of qs) ≡ ordering_then (ordering_then (nat_cmp (length ps) (length qs)) (front_order (keys_of ps) (keys_of qs))) (front_order (values_of ps) (values_of qs))
+    → order (map_of ps) (map_of qs) ≡ ordering_then (ordering_then (nat_cmp (length ps) (length qs)) (front_order (keys ps) (keys qs))) (front_order (values ps) (values qs))
 order-maps_by_steps ps qs =
     elim (cases_order (length ps) (length qs)) [
       | inl e ↦
           order-maps ps qs e
-          ∙ ap (λ o. ordering_then (ordering_then o (front_order (keys_of ps) (keys_of qs))) (front_order (values_of ps) (values_of qs)))
+          ∙ ap (λ o. ordering_then (ordering_then o (front_order (keys ps) (keys qs))) (front_order (values ps) (values qs)))
           (sym (ap (λ n. nat_cmp (length ps) n) (sym e) ∙ nat_cmp_self (length ps)))
       | inr d ↦
           let by_size = nat_cmp-apart (length ps) (length qs) (apart (length ps) (length qs) d) in
           order-maps_differ ps qs (apart (length ps) (length qs) d)
-          ∙ sym (decided (nat_cmp (length ps) (length qs)) (ordering_then (front_order (keys_of ps) (keys_of qs)) (front_order (values_of ps) (values_of qs))) by_size)
-          ∙ sym (then_assoc (nat_cmp (length ps) (length qs)) (front_order (keys_of ps) (keys_of qs)) (front_order (values_of ps) (values_of qs)))
+          ∙ sym (decided (nat_cmp (length ps) (length qs)) (ordering_then (front_order (keys ps) (keys qs)) (front_order (values ps) (values qs))) by_size)
+          ∙ sym (then_assoc (nat_cmp (length ps) (length qs)) (front_order (keys ps) (keys qs)) (front_order (values ps) (values qs)))
     ]
 
 -- the sizes alone decide where they differ, and not where they are equal

@@ -18,8 +18,6 @@ abbrev pub ends_order : ℕ → ℕ → ℕ → ℕ → Ordering
 ends_order parts end others other_end =
     match_ordering (nat_cmp parts others) (nat_cmp end 5) (nat_cmp end other_end) (nat_cmp 5 other_end)
 
-abbrev pub keys_of : List (TermValue × TermValue) → List TermValue
-keys_of pairs = map (λ p. p.0) pairs
-
-abbrev pub values_of : List (TermValue × TermValue) → List TermValue
-values_of pairs = map (λ p. p.1) pairs
+-- beside the keys of some pairs
+abbrev pub values : List (TermValue × TermValue) → List TermValue
+values pairs = map (λ p. p.1) pairs

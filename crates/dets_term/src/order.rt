@@ -4,7 +4,8 @@ ghost use Rattle.std.specs.Ordering.{nat_cmp, bool_cmp, ordering_then};
 ghost use Rattle.dets_term.specs.BitString.{bits_of, IsPadded};
 ghost use Rattle.std.specs.Cmp.Lexicographic.{slice_cmp};
 ghost use Rattle.dets_term.specs.Order.{order, rank};
-ghost use Rattle.dets_term.specs.Fronts.{front_order, ends_order, keys_of, values_of};
+ghost use Rattle.dets_term.specs.Fronts.{front_order, ends_order, values};
+ghost use Rattle.dets_term.specs.Pairs.{keys};
 
 use crate::{Node, PairList, Term, TermList};
 use std::cmp::Ordering;
@@ -116,7 +117,7 @@ fn cmp_ends(parts: &TermList, end: u8, others: &TermList, other_end: u8) -> Orde
 /// The order of two maps by their sizes and then by their keys.
 #[cycle(compare)]
 fn cmp_keys(pairs: &PairList, others: &PairList) -> Ordering
-    ensures { result ≡ ordering_then (nat_cmp (length pairs.now) (length others.now)) (front_order (keys_of pairs.now) (keys_of others.now)) }
+    ensures { result ≡ ordering_then (nat_cmp (length pairs.now) (length others.now)) (front_order (keys pairs.now) (keys others.now)) }
 {
     if pairs.len() != others.len() {
         return pairs.len().cmp(&others.len());
@@ -133,7 +134,7 @@ fn cmp_keys(pairs: &PairList, others: &PairList) -> Ordering
 /// The order of two maps by their values, as far as both have some.
 #[cycle(compare)]
 fn cmp_values(pairs: &PairList, others: &PairList) -> Ordering
-    ensures { result ≡ front_order (values_of pairs.now) (values_of others.now) }
+    ensures { result ≡ front_order (values pairs.now) (values others.now) }
 {
     for place in 0..pairs.len().min(others.len()) {
         let here = cmp(&pairs.items[place].1, &others.items[place].1);
@@ -151,3 +152,6 @@ fn cmp_bytes(bytes: &[u8], others: &[u8]) -> Ordering
 {
     bytes.cmp(others)
 }
+
+#[cfg(test)]
+mod tests;

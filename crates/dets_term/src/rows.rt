@@ -3,10 +3,11 @@ ghost use Rattle.std.specs.Prelude.{◌≡◌, ◌-◌, ◌^◌, [], ◌∷◌, 
 ghost use Rattle.std.specs.declared.cmp.Ordering.TheVariants.{Less, Equal, Greater};
 ghost use Rattle.dets_term.specs.TermValue.{integer, atom, tuple, mapping, nil, cons, chain, map_of, depth, key};
 ghost use Rattle.dets_term.specs.Order.{order, is_same};
+ghost use Rattle.dets_term.specs.Pairs.{map_built};
 ghost use Rattle.dets_term.specs.BitString.{bits_of, IsPadded};
-ghost use Rattle.dets_term.specs.IsTerm.{IsTerm, limited, built};
+ghost use Rattle.dets_term.specs.IsTerm.{IsTerm, limited, built, bits_built};
 ghost use Rattle.dets_term.specs.Written.{word, number, tuple_of, list_of, pair, bytes, bit_string, boxed};
-ghost use Rattle.dets_term.specs.declared.term.TermFault.TheVariants.{Depth, ManyParts};
+ghost use Rattle.dets_term.specs.declared.term.TermFault.TheVariants.{Depth, ManyParts, RepeatedKey};
 
 /// A term without parts has one level.
 pub fn a_term_without_parts_has_depth_1()
@@ -217,6 +218,30 @@ pub fn a_term_past_its_limits_is_refused()
     ensures parts { limited (2 ^ 32) 2 nil ≡ Err ManyParts }
     ensures levels { built 1 (boxed 256) ≡ Err Depth }
     ensures both { limited (2 ^ 32) 257 nil ≡ Err ManyParts }
+{}
+
+/// A map is built of its pairs in any order.
+pub fn a_map_is_built_of_pairs_in_any_order()
+    ensures ascending { map_built ((number 1, nil) ∷ (word "a", number 2) ∷ []) ≡ Ok (map_of ((number 1, nil) ∷ (word "a", number 2) ∷ [])) }
+    ensures descending { map_built ((word "a", number 2) ∷ (number 1, nil) ∷ []) ≡ Ok (map_of ((number 1, nil) ∷ (word "a", number 2) ∷ [])) }
+    ensures no_pairs { map_built [] ≡ Ok (map_of []) }
+{}
+
+/// A key that stands in two pairs is refused, whatever their values, and before too many levels.
+pub fn a_repeated_key_is_refused()
+    ensures two_values { map_built ((number 1, nil) ∷ (number 1, word "a") ∷ []) ≡ Err RepeatedKey }
+    ensures one_value { map_built ((number 1, nil) ∷ (number 1, nil) ∷ []) ≡ Err RepeatedKey }
+    ensures far_apart { map_built ((word "a", nil) ∷ (number 1, nil) ∷ (number 2, nil) ∷ (word "a", nil) ∷ []) ≡ Err RepeatedKey }
+    ensures too_deep { map_built ((number 1, boxed 256) ∷ (number 1, nil) ∷ []) ≡ Err RepeatedKey }
+    ensures too_deep_alone { map_built ((number 1, boxed 255) ∷ []) ≡ Err Depth }
+{}
+
+/// Unused bits do not count when a bit string is built.
+pub fn a_bit_string_is_built_without_its_unused_bits()
+    ensures one_bit { bits_built (255 ∷ []) 1 ≡ Ok (bit_string (128 ∷ []) 1) }
+    ensures nine_bits { bits_built (1 ∷ 127 ∷ []) 1 ≡ Ok (bit_string (1 ∷ 0 ∷ []) 1) }
+    ensures whole_bytes { bits_built (1 ∷ 127 ∷ []) 8 ≡ Ok (bytes (1 ∷ 127 ∷ [])) }
+    ensures no_bytes { bits_built [] 8 ≡ Ok (bytes []) }
 {}
 
 /// Integers of 128 bits and atoms of 255 characters are within the limits.

@@ -5,7 +5,7 @@ use Rattle.dets_term.specs.BitString.{bits_of, IsPadded}
 use Rattle.dets_term.specs.declared.term.Node.{Node}
 use Rattle.dets_term.specs.TermValue.{TermValue, chain}
 use Rattle.dets_term.specs.Order.{order, rank}
-use Rattle.dets_term.specs.Fronts.{front_order, ends_order, values_of}
+use Rattle.dets_term.specs.Fronts.{front_order, ends_order, values}
 use Rattle.dets_term.specs.Node.{shown, IsSound}
 use Rattle.dets_term.specs.Orderings.{decided, undecided}
 use Rattle.dets_term.proofs.Fronts.{by_size_alone, past_size, order-proper, order-proper-improper, order-improper-proper, order-improper_ends, order-improper_longer, order-improper_fronts, order-tuples, order-tuples_differ, order-maps_by_steps, front_decided, front_goes_on, front_all, mapped_decided, mapped_goes_on, mapped_all}
@@ -32,7 +32,7 @@ cmp-returns-else-len t c =
 pub cmp-returns-then-is_ne : goal.cmp-returns-then-is_ne
 cmp-returns-then-is_ne t c =
     sym (decided c.cmp_keys-by_keys.result _ (sym c.is_ne.ensures ∙ c.if-is_ne.true))
-    ∙ ap (λ o. ordering_then o (front_order (values_of c.in-Map-Map.pairs) (values_of c.in-Map-Map.others))) c.cmp_keys-by_keys.ensures
+    ∙ ap (λ o. ordering_then o (front_order (values c.in-Map-Map.pairs) (values c.in-Map-Map.others))) c.cmp_keys-by_keys.ensures
     ∙ sym (order-maps_by_steps c.in-Map-Map.pairs c.in-Map-Map.others)
     ∙ terms _ _ c.a.view_is c.b.view_is c.in-Map-Map.is-0 c.in-Map-Map.is-1
 
@@ -40,7 +40,7 @@ pub cmp-returns-else-is_ne : goal.cmp-returns-else-is_ne
 cmp-returns-else-is_ne t c =
     c.cmp_values.ensures
     ∙ sym (undecided c.cmp_keys-by_keys.result _ (sym c.is_ne.ensures ∙ c.if-is_ne.false))
-    ∙ ap (λ o. ordering_then o (front_order (values_of c.in-Map-Map.pairs) (values_of c.in-Map-Map.others))) c.cmp_keys-by_keys.ensures
+    ∙ ap (λ o. ordering_then o (front_order (values c.in-Map-Map.pairs) (values c.in-Map-Map.others))) c.cmp_keys-by_keys.ensures
     ∙ sym (order-maps_by_steps c.in-Map-Map.pairs c.in-Map-Map.others)
     ∙ terms _ _ c.a.view_is c.b.view_is c.in-Map-Map.is-0 c.in-Map-Map.is-1
 
