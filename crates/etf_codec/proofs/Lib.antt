@@ -1,2 +1,4 @@
 pub mod Bytes
 pub mod Reading
+pub mod Magnitudes
+pub mod Counts
