@@ -2,3 +2,4 @@ pub mod Bytes
 pub mod Reading
 pub mod Magnitudes
 pub mod Counts
+pub mod HandedOn

@@ -1,5 +1,6 @@
 -- What a reader answers, told by its format. This project's own.
-use Rattle.std.specs.Prelude.{◌≡◌, ℕ, List, Result, Ok, Err, ◌⊎◌, drop}
+use Rattle.std.specs.Prelude.{◌≡◌, ℕ, List, [], Result, Ok, Err, ◌⊎◌, drop}
+use Rattle.dets_term.specs.TermValue.{TermValue, parts_depth, elements}
 use Rattle.etf_codec.specs.declared.fault.EtfFault.{EtfFault}
 use Rattle.etf_codec.specs.declared.fault.EtfFault.TheVariants.{Memory}
 use Rattle.etf_codec.specs.Format.{Format, Place}
@@ -17,3 +18,7 @@ Reads F term before behind (Err fault) = F.read term before ≡ Err fault
 abbrev pub ReadsWithin : {A : Type 0} → Format A → ℕ → Place → Place → Result A EtfFault → Type 0
 ReadsWithin F term before behind (Ok x) = F.read term before ≡ Ok (x, behind)
 ReadsWithin F term before behind (Err fault) = (fault ≡ Memory) ⊎ (F.read term before ≡ Err fault)
+
+-- a term without parts
+abbrev pub IsLeaf : TermValue → Type 0
+IsLeaf t = (parts_depth t ≡ 0) × (elements t ≡ [])

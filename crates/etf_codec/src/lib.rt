@@ -8,3 +8,4 @@ pub use std::alloc::AllocError as Memory;
 
 mod cursor;
 mod fault;
+mod numbers;
