@@ -3,3 +3,4 @@ pub mod Reading
 pub mod Magnitudes
 pub mod Counts
 pub mod HandedOn
+pub mod Naming

@@ -1,9 +1,10 @@
 -- What a reader answers, told by its format. This project's own.
-use Rattle.std.specs.Prelude.{◌≡◌, ℕ, List, [], Result, Ok, Err, ◌⊎◌, drop}
-use Rattle.dets_term.specs.TermValue.{TermValue, parts_depth, elements}
+use Rattle.std.specs.Prelude.{◌≡◌, ℕ, Bool, true, false, List, [], Result, Ok, Err, ◌⊎◌, drop}
+use Rattle.dets_term.specs.TermValue.{TermValue, atom, parts_depth, elements}
 use Rattle.etf_codec.specs.declared.fault.EtfFault.{EtfFault}
-use Rattle.etf_codec.specs.declared.fault.EtfFault.TheVariants.{Memory}
+use Rattle.etf_codec.specs.declared.fault.EtfFault.TheVariants.{Memory, BadAtom}
 use Rattle.etf_codec.specs.Format.{Format, Place}
+use Rattle.etf_codec.specs.Layout.{is_name, characters}
 
 -- the place in some bytes behind so many of them
 abbrev pub place_at : List ℕ → ℕ → Place
@@ -22,3 +23,8 @@ ReadsWithin F term before behind (Err fault) = (fault ≡ Memory) ⊎ (F.read te
 -- a term without parts
 abbrev pub IsLeaf : TermValue → Type 0
 IsLeaf t = (parts_depth t ≡ 0) × (elements t ≡ [])
+
+-- what bytes are as an atom's text, in UTF-8 or else in Latin-1, or want of memory
+abbrev pub IsAtomOf : Bool → List ℕ → ℕ → Result TermValue EtfFault → Type 0
+IsAtomOf utf8 bytes term (Ok t) = (is_name utf8 bytes ≡ true) × (t ≡ atom (characters utf8 bytes))
+IsAtomOf utf8 bytes term (Err fault) = (fault ≡ Memory) ⊎ ((is_name utf8 bytes ≡ false) × (fault ≡ BadAtom term))

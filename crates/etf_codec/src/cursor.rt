@@ -1,7 +1,7 @@
 ghost use Rattle.std.specs.Prelude.{◌≡◌, ℕ, ◌<◌, ◌≤◌, ◌+◌, ◌^◌, ◌*◌, length, IfOk, IfErr, MatchOption};
 ghost use Rattle.etf_codec.specs.Format.{byte, times};
 ghost use Rattle.etf_codec.specs.Reads.{Reads};
-ghost use Rattle.etf_codec.specs.Spelling.{number, count, magnitude_after};
+ghost use Rattle.etf_codec.specs.Spelling.{number, sized, count, magnitude_after};
 
 use crate::EtfFault;
 use std::marker::Model;
@@ -73,6 +73,16 @@ impl<'a> Cursor<'a> {
             value = 256 * value + u32::from(self.byte()?);
         }
         Ok(value)
+    }
+
+    /// As many bytes as a number in front of them says, which has so many bytes, at most four.
+    pub fn sized(&mut self, size: u32) -> Result<&'a [u8], EtfFault>
+        requires { size ≤ 4 }
+        ensures ok { IfOk result (λ bytes. (term : ℕ) → (sized size).read term self.old ≡ Ok (bytes.now, self.new)) }
+        ensures err { IfErr result (λ fault. (term : ℕ) → (sized size).read term self.old ≡ Err fault) }
+    {
+        let length = self.number(size)?;
+        self.take(length as usize)
     }
 
     /// The number of parts of the term that begins at an offset, as a number of so many bytes, at most four. Where

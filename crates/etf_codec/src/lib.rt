@@ -6,6 +6,7 @@
 pub use fault::EtfFault;
 pub use std::alloc::AllocError as Memory;
 
+mod atoms;
 mod cursor;
 mod fault;
 mod numbers;
