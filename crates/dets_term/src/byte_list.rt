@@ -1,4 +1,5 @@
-ghost use Rattle.std.specs.Prelude.{◌≡◌, List, [], ◌∷◌, ◌++◌, length, IfOk, OnOk, OnErr, slice_get};
+ghost use Rattle.std.specs.Prelude.{◌≡◌, ◌-◌, ◌%◌, ◌^◌, ◌≤◌, List, [], ◌∷◌, ◌++◌, take, length, IfOk, OnOk, OnErr, slice_get};
+ghost use Rattle.dets_term.specs.BitString.{byte_bits, bits_of, MayUse, IsPadded};
 
 use crate::Memory;
 use std::alloc::Global;
@@ -54,6 +55,18 @@ impl ByteList {
         self.bytes.extend_from_slice(items)
     }
 
+    /// Clears the bits of the last byte that are not used.
+    pub(crate) fn clear_unused(&mut self, used: u8)
+        requires { MayUse self.old used }
+        ensures bits { bits_of self.new used ≡ bits_of self.old used }
+        ensures padded { IsPadded self.new used }
+        ensures len { length self.new ≡ length self.old }
+    {
+        if let Some(last) = self.bytes.last_mut() {
+            *last = front_bits(*last, used);
+        }
+    }
+
     /// How many bytes there are.
     pub fn len(&self) -> usize
         ensures { result ≡ length self.now }
@@ -74,4 +87,15 @@ impl ByteList {
     {
         self.bytes.as_slice()
     }
+}
+
+/// A byte with its lower bits cleared: so many from the highest on stay.
+fn front_bits(byte: u8, count: u8) -> u8
+    requires some { 1 ≤ count }
+    requires all { count ≤ 8 }
+    ensures kept { take count (byte_bits result) ≡ take count (byte_bits byte) }
+    ensures cleared { result % 2 ^ (8 - count) ≡ 0 }
+{
+    let unused = 8 - count;
+    byte >> unused << unused
 }

@@ -1,4 +1,4 @@
-//! Erlang's terms: integers, atoms, tuples and lists, with depth, equality and keys.
+//! Erlang's terms: integers, atoms, tuples, maps, lists and bit strings, with depth, order, keys and a hash.
 //!
 //! The lowest crate of terms; it stands on std alone. A `Term` keeps its limits at every moment: at most
 //! 256 levels, fewer than 2^32 parts in each node, at most 255 characters in an atom. Contracts see a
@@ -6,6 +6,7 @@
 #![tactic(auto)]
 
 pub use byte_list::ByteList;
+pub use hash::hash_bytes;
 pub use kind::Kind;
 pub use pair_list::PairList;
 pub use std::alloc::AllocError as Memory;
@@ -14,6 +15,7 @@ pub use term_list::TermList;
 pub use text::Text;
 
 mod byte_list;
+mod hash;
 mod kind;
 mod pair_list;
 mod term;

@@ -1,8 +1,9 @@
-ghost use Rattle.std.specs.Prelude.{suc, ◌≡◌, ◌<◌, ◌*◌, ◌+◌, ◌↔◌, length, IfOk, IfErr, IsErrOf, ◌⊎◌};
+ghost use Rattle.std.specs.Prelude.{suc, ◌≡◌, ◌<◌, ◌*◌, ◌+◌, ◌↔◌, false, length, IfOk, IfErr, IsErrOf, ◌⊎◌};
 ghost use Rattle.std.specs.Option.{option_copied};
 ghost use Rattle.std.specs.Str.{chars};
-ghost use Rattle.dets_term.specs.TermValue.{integer, atom, tuple, nil, chain, depth, key};
-ghost use Rattle.dets_term.specs.IsTerm.{IsTerm, limited, built};
+ghost use Rattle.dets_term.specs.TermValue.{integer, atom, tuple, nil, chain, elements, is_list, depth, key};
+ghost use Rattle.dets_term.specs.IsTerm.{IsTerm, limited, built, bits_built};
+ghost use Rattle.dets_term.specs.BitString.{MayUse};
 ghost use Rattle.dets_term.specs.Parts.{deepest, AreTerms};
 ghost use Rattle.dets_term.specs.Node.{shown, IsSound};
 ghost use Rattle.dets_term.specs.declared.term.TermFault.TheVariants.{Memory as OutOfMemory};
@@ -137,6 +138,45 @@ impl Term {
         })
     }
 
+    /// A list of these parts that ends in `tail`. Parts in front of a tail that is a list make one list of both, and
+    /// no parts make the tail itself. `ManyParts` from 2^32 elements on, then `Depth` above 256 levels.
+    pub fn list_with_tail(alloc: Global, mut parts: TermList, tail: Term) -> Result<Term, TermFault>
+        ensures { (result ≡ Err OutOfMemory) ⊎ (result ≡ built (length (elements (chain parts tail))) (chain parts tail)) }
+    {
+        let levels = tail.levels;
+        if parts.len() == 0 {
+            return Ok(tail);
+        }
+        match tail.node {
+            Node::List(rest) => {
+                parts.append(rest)?;
+                Term::list(parts)
+            }
+            Node::Improper(rest, last) => {
+                parts.append(rest)?;
+                improper(parts, last)
+            }
+            node => {
+                let last = boxed(alloc, Term { node, levels })?;
+                improper(parts, last)
+            }
+        }
+    }
+
+    /// A bit string of these bytes, of the last one only so many bits from the highest on, 1 to 8, and 8 where there
+    /// is no byte. The other bits of it are cleared. `ManyParts` from 2^32 bytes on.
+    pub fn bits(mut bytes: ByteList, used: u8) -> Result<Term, TermFault>
+        requires { MayUse bytes used }
+        ensures { result ≡ bits_built bytes used }
+    {
+        let levels = level_above(bytes.len(), 0)?;
+        bytes.clear_unused(used);
+        Ok(Term {
+            node: Node::Bits(bytes, used),
+            levels,
+        })
+    }
+
     /// What the term is made of.
     pub fn node(&self) -> &Node
         ensures value { shown result.now ≡ self.now }
@@ -176,13 +216,39 @@ impl Term {
     }
 }
 
+/// The term in a place of its own.
+fn boxed(alloc: Global, term: Term) -> Result<Box<Term>, Memory>
+    ensures { IfOk result (λ place. place.value ≡ term) }
+{
+    Ok(Box::new(alloc, term)?)
+}
+
+/// An improper list of these parts and this tail.
+fn improper(parts: TermList, tail: Box<Term>) -> Result<Term, TermFault>
+    requires some { 0 < length parts }
+    requires no_list { is_list tail.value ≡ false }
+    ensures { result ≡ built (length parts) (chain parts tail.value) }
+{
+    let levels = level_above(parts.len(), parts.levels().max(tail.depth()))?;
+    Ok(Term {
+        node: Node::Improper(parts, tail),
+        levels,
+    })
+}
+
 /// How many levels a node over these parts has.
 fn levels_above(parts: &TermList) -> Result<u32, TermFault>
     ensures levels { result ≡ limited (length parts.now) (suc (deepest parts.now)) (suc (deepest parts.now)) }
     ensures terms { AreTerms parts.now }
 {
-    let levels = parts.levels();
-    if parts.len() > MAX_PARTS {
+    level_above(parts.len(), parts.levels())
+}
+
+/// How many levels a node over so many parts has, the deepest of which has so many levels.
+fn level_above(parts: usize, levels: u32) -> Result<u32, TermFault>
+    ensures { result ≡ limited parts (suc levels) (suc levels) }
+{
+    if parts > MAX_PARTS {
         Err(TermFault::ManyParts)
     } else if levels >= MAX_DEPTH {
         Err(TermFault::Depth)

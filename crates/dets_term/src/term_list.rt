@@ -61,6 +61,18 @@ impl TermList {
         Ok(())
     }
 
+    /// Puts the terms of another list last, in order. After `Memory` the list is as it was.
+    pub(crate) fn append(&mut self, other: TermList) -> Result<(), Memory>
+        ensures ok { OnOk result (self.new ≡ self.old ++ other) }
+        ensures err { OnErr result (self.new ≡ self.old) }
+    {
+        let levels = self.levels.max(other.levels);
+        let mut items = other.items;
+        self.items.append(&mut items)?;
+        self.levels = levels;
+        Ok(())
+    }
+
     /// How many terms there are.
     pub fn len(&self) -> usize
         ensures { result ≡ length self.now }
