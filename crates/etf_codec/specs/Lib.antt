@@ -6,6 +6,9 @@
 -- place behind it, or to the fault. `Exact` says that the two agree.
 pub mod Format
 pub mod Exact
+pub mod Sharp
 pub mod Layout
 pub mod Spelling
 pub mod Reads
+pub mod Fronts
+pub mod Moved

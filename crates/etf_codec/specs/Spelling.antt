@@ -120,7 +120,7 @@ abbrev pub term_with : (ℕ → Bool) → (ℕ → ℕ → EtfFault) → ℕ →
 term_with test fault zero = refused (λ here. Depth here)
 term_with test fault (suc levels) =
     framed (followed (tag_of test fault)
-    (body (term_with is_known (λ term x. Unsupported term x) levels) (term_with begins_tail (λ term x. Unsupported term x) levels) levels))
+    (λ tag. body (term_with is_known (λ term x. Unsupported term x) levels) (term_with begins_tail (λ term x. Unsupported term x) levels) levels tag))
 
 -- the first term, behind 131: 80 begins a compressed one
 abbrev pub outermost : Format TermValue

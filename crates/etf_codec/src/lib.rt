@@ -9,4 +9,5 @@ pub use std::alloc::AllocError as Memory;
 mod atoms;
 mod cursor;
 mod fault;
+pub mod laws;
 mod numbers;
