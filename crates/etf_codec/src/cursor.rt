@@ -54,6 +54,7 @@ impl<'a> Cursor<'a> {
     pub fn take(&mut self, count: usize) -> Result<&'a [u8], EtfFault>
         ensures ok { IfOk result (λ front. (term : ℕ) → (times count byte).read term self.old ≡ Ok (front.now, self.new)) }
         ensures err { IfErr result (λ fault. (term : ℕ) → (times count byte).read term self.old ≡ Err fault) }
+        ensures len { IfOk result (λ front. length front.now ≡ count) }
     {
         let left = &self.bytes[self.at..];
         if left.len() < count {
@@ -80,6 +81,7 @@ impl<'a> Cursor<'a> {
         requires { size ≤ 4 }
         ensures ok { IfOk result (λ bytes. (term : ℕ) → (sized size).read term self.old ≡ Ok (bytes.now, self.new)) }
         ensures err { IfErr result (λ fault. (term : ℕ) → (sized size).read term self.old ≡ Err fault) }
+        ensures len { IfOk result (λ bytes. length bytes.now < 2 ^ 32) }
     {
         let length = self.number(size)?;
         self.take(length as usize)

@@ -7,7 +7,10 @@ pub use fault::EtfFault;
 pub use std::alloc::AllocError as Memory;
 
 mod atoms;
+mod bits;
+mod building;
 mod cursor;
 mod fault;
 pub mod laws;
 mod numbers;
+mod strings;
