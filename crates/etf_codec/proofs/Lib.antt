@@ -13,3 +13,5 @@ pub mod Moving
 pub mod SpellingMoves
 pub mod Fronts
 pub mod Rows
+pub mod Built
+pub mod Bodies

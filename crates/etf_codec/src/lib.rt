@@ -12,5 +12,6 @@ mod building;
 mod cursor;
 mod fault;
 pub mod laws;
+mod leaves;
 mod numbers;
 mod strings;
