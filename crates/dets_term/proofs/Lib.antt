@@ -8,3 +8,5 @@ pub mod NodeKinds
 pub mod PairParts
 pub mod PairSorts
 pub mod Texts
+pub mod Fronts
+pub mod BitOrder

@@ -40,8 +40,7 @@ IsBounded-map_of ps short pairs ascending =
     let ks = map (λ (p : TermValue × TermValue). p.0) ps in
     let vs = map (λ (p : TermValue × TermValue). p.1) ps in
     let many : length ks ≡ length ps = length-map ps (λ p. p.0) in
-    let values : length vs ≡ length ps = length-map ps (λ p. p.1) in
-    (
+    let values : length vs ≡ length ps = length-map ps (λ p. p.1) in (
       IsProper-chain ks,
       IsProper-chain vs,
       ap length (elements-chain ks) ∙ many ∙ sym values ∙ ap length (sym (elements-chain vs)),

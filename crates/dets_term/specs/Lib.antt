@@ -1,6 +1,10 @@
 -- The definitions of this crate, one file for each idea.
 pub mod TermValue
 pub mod Order
+pub mod Fronts
+pub mod Orderings
+pub mod OrderCode
+pub mod Same
 pub mod TermCode
 pub mod IsTerm
 pub mod BitString

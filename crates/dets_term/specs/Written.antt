@@ -1,7 +1,8 @@
 -- Terms in few words, as worked rows write them. This project's own.
 use Prim.Native.String.{String}
 use Rattle.std.specs.Prelude.{ℕ, zero, suc, pos, List, [], ◌∷◌, codes}
-use Rattle.dets_term.specs.TermValue.{TermValue, integer, atom, tuple, nil, chain}
+use Rattle.dets_term.specs.TermValue.{TermValue, integer, atom, tuple, nil, chain, bits}
+use Rattle.dets_term.specs.BitString.{bits_of}
 
 -- an atom by its name
 abbrev pub word : String → TermValue
@@ -20,6 +21,14 @@ list_of parts = chain parts nil
 -- {A,B}
 abbrev pub pair : TermValue → TermValue → TermValue
 pair a b = tuple_of (a ∷ b ∷ [])
+
+-- a bit string of these bytes, of the last of them only so many bits
+abbrev pub bit_string : List ℕ → ℕ → TermValue
+bit_string bs used = bits (bits_of bs used)
+
+-- a bit string of whole bytes
+abbrev pub bytes : List ℕ → TermValue
+bytes bs = bit_string bs 8
 
 -- the integer 0 inside so many lists of one element
 abbrev pub boxed : ℕ → TermValue

@@ -1,8 +1,13 @@
-ghost use Rattle.std.specs.Prelude.{◌≡◌, List, [], ◌∷◌, ◌++◌, length, OnOk, OnErr, IfOk, slice_get};
+ghost use Rattle.std.specs.Prelude.{◌≡◌, List, [], ◌∷◌, ◌++◌, length, ◌↔◌, IsTrue, OnOk, OnErr, IfOk, slice_get};
 ghost use Rattle.std.specs.Option.{option_copied};
+ghost use Rattle.std.specs.List.Sorted.{IsPermutation, IsSortedByKey};
+ghost use Rattle.dets_term.specs.Order.{order};
+ghost use Rattle.dets_term.specs.IsTerm.{AreAscending};
+ghost use Rattle.dets_term.specs.Pairs.{keys};
 ghost use Rattle.dets_term.specs.Parts.{deepest_of_pairs, ArePairs};
 
 use crate::Memory;
+use crate::order::cmp;
 use crate::term::Term;
 use std::alloc::Global;
 use std::marker::Model;
@@ -11,7 +16,7 @@ use std::marker::Model;
 #[cycle(term)]
 #[derive(Drop)]
 pub struct PairList {
-    items: Vec<(Term, Term)>,
+    pub(crate) items: Vec<(Term, Term)>,
     // the greatest depth among the keys and values, 0 where there is none
     levels: u32,
 }
@@ -82,6 +87,23 @@ impl PairList {
         ensures pairs { ArePairs self.now }
     {
         self.levels
+    }
+
+    /// Puts the pairs in order by their keys. It takes no memory.
+    pub(crate) fn sort_by_key(&mut self)
+        ensures permutation { IsPermutation self.old self.new }
+        ensures sorted { IsSortedByKey (λ p. p.0) order self.new }
+    {
+        self.items.sort_unstable_by(|p, q| cmp(&p.0, &q.0));
+    }
+
+    /// Whether each key is less than the next one.
+    pub(crate) fn keys_ascend(&self) -> bool
+        ensures { IsTrue result ↔ AreAscending (keys self.now) }
+    {
+        self.items
+            .as_slice()
+            .is_sorted_by(|p, q| cmp(&p.0, &q.0).is_lt())
     }
 
     /// The same pairs once more.

@@ -4,6 +4,7 @@ ghost use Rattle.std.specs.Str.{chars};
 ghost use Rattle.dets_term.specs.TermValue.{integer, atom, tuple, nil, chain, elements, is_list, depth, key};
 ghost use Rattle.dets_term.specs.IsTerm.{IsTerm, limited, built, bits_built};
 ghost use Rattle.dets_term.specs.BitString.{MayUse};
+ghost use Rattle.dets_term.specs.Pairs.{map_built};
 ghost use Rattle.dets_term.specs.Parts.{deepest, AreTerms};
 ghost use Rattle.dets_term.specs.Node.{shown, IsSound};
 ghost use Rattle.dets_term.specs.declared.term.TermFault.TheVariants.{Memory as OutOfMemory};
@@ -35,7 +36,7 @@ pub enum Node {
 #[cycle(term)]
 #[derive(Drop)]
 pub struct Term {
-    node: Node,
+    pub(crate) node: Node,
     levels: u32,
 }
 
@@ -134,6 +135,22 @@ impl Term {
         let levels = levels_above(&parts)?;
         Ok(Term {
             node: Node::List(parts),
+            levels,
+        })
+    }
+
+    /// A map of these pairs of a key and a value, in any order. `ManyParts` from 2^32 pairs on, then `RepeatedKey`,
+    /// then `Depth` above 256 levels.
+    pub fn map(mut pairs: PairList) -> Result<Term, TermFault>
+        ensures { result ≡ map_built pairs }
+    {
+        pairs.sort_by_key();
+        if pairs.len() <= MAX_PARTS && !pairs.keys_ascend() {
+            return Err(TermFault::RepeatedKey);
+        }
+        let levels = level_above(pairs.len(), pairs.levels())?;
+        Ok(Term {
+            node: Node::Map(pairs),
             levels,
         })
     }

@@ -11,7 +11,7 @@ use std::marker::Model;
 #[cycle(term)]
 #[derive(Drop)]
 pub struct TermList {
-    items: Vec<Term>,
+    pub(crate) items: Vec<Term>,
     // the greatest depth among them, 0 where there is none
     levels: u32,
 }

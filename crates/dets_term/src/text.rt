@@ -1,8 +1,11 @@
-ghost use Rattle.std.specs.Prelude.{◌≡◌, List, [], ◌∷◌, ◌++◌, length, OnOk, OnErr, IfOk, IsTrue, ◌↔◌, slice_get};
+ghost use Rattle.std.specs.Prelude.{◌≡◌, List, [], ◌∷◌, ◌++◌, length, OnOk, OnErr, IfOk, slice_get};
+ghost use Rattle.std.specs.Ordering.{nat_cmp};
+ghost use Rattle.std.specs.Cmp.Lexicographic.{slice_cmp};
 ghost use Rattle.std.specs.Str.{chars};
 
 use crate::Memory;
 use std::alloc::Global;
+use std::cmp::Ordering;
 use std::marker::Model;
 
 /// A list of characters, kept in UTF-8.
@@ -76,11 +79,11 @@ impl Text {
         self.utf8.as_str()
     }
 
-    /// Whether two texts have equal characters.
-    pub(crate) fn equals(&self, other: &Text) -> bool
-        ensures { IsTrue result ↔ (self.now ≡ other.now) }
+    /// The order of two texts, character by character.
+    pub(crate) fn compare(&self, other: &Text) -> Ordering
+        ensures { result ≡ slice_cmp nat_cmp self.now other.now }
     {
-        self.utf8.as_str() == other.utf8.as_str()
+        self.utf8.as_str().chars().cmp(other.utf8.as_str().chars())
     }
 }
 
