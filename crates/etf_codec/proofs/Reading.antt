@@ -40,3 +40,14 @@ pub within_made : {A : Type 0} (F : Format A) (term : ℕ) (before behind : Plac
     → IfOk answer (λ x. x ≡ value) → IfErr answer (λ fault. fault ≡ Memory) → F.read term before ≡ Ok (value, behind) → ReadsWithin F term before behind answer
 within_made F term before behind (Ok x) value ok err e = e ∙ ap (λ y. Ok (y, behind)) (sym ok)
 within_made F term before behind (Err fault) value ok err e = inl err
+
+pub within_reads : {A : Type 0} (F G : Format A) (term : ℕ) (before behind : Place) (answer : Result A EtfFault)
+    → G.read term before ≡ F.read term before → Reads F term before behind answer → ReadsWithin G term before behind answer
+within_reads F G term before behind (Ok x) e h = e ∙ h
+within_reads F G term before behind (Err fault) e h = inr (e ∙ h)
+
+pub within_same : {A : Type 0} (F G : Format A) (term : ℕ) (before behind : Place) (answer : Result A EtfFault)
+    → G.read term before ≡ F.read term before → ReadsWithin F term before behind answer → ReadsWithin G term before behind answer
+within_same F G term before behind (Ok x) e h = e ∙ h
+within_same F G term before behind (Err fault) e (inl memory) = inl memory
+within_same F G term before behind (Err fault) e (inr h) = inr (e ∙ h)
