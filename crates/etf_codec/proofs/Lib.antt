@@ -15,3 +15,6 @@ pub mod Fronts
 pub mod Rows
 pub mod Built
 pub mod Bodies
+pub mod Collecting
+pub mod PairOrder
+pub mod Entries

@@ -10,5 +10,7 @@ pub mod Sharp
 pub mod Layout
 pub mod Spelling
 pub mod Reads
+pub mod KeyOrder
+pub mod Keyed
 pub mod Fronts
 pub mod Moved
