@@ -18,3 +18,5 @@ pub mod Bodies
 pub mod Collecting
 pub mod PairOrder
 pub mod Entries
+pub mod TermSteps
+pub mod PairsRead

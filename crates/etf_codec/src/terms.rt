@@ -178,9 +178,8 @@ fn read_pairs(
     let mut pairs = KeyedPairs::new(alloc);
     for _ in 0..count {
         let start = cursor.offset();
-        let key = Key {
-            term: read_part(alloc, cursor, levels)?,
-        };
+        let term = read_part(alloc, cursor, levels)?;
+        let key = Key { term };
         if pairs.has(&key) {
             return Err(EtfFault::RepeatedKey(start));
         }

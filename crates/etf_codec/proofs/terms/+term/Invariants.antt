@@ -6,6 +6,7 @@ use Rattle.etf_codec.specs.Format.{times}
 use Rattle.etf_codec.specs.Reads.{part_of}
 use Rattle.etf_codec.specs.Spelling.{pairs_after}
 use Rattle.etf_codec.proofs.Collecting.{behind}
+use Rattle.etf_codec.proofs.PairsRead.{PairsSoFar}
 use Rattle.etf_codec.proofs.terms.+term.Given as goal
 
 abbrev pub decreases-read_part : goal.decreases-read_part
@@ -36,3 +37,6 @@ decreases-read_body l = 4 * l.levels + 3
 abbrev pub invariant-read_parts-loop : goal.invariant-read_parts-loop
 invariant-read_parts-loop l = (length l.parts ≡ l.counter) × (deepest l.parts ≤ l.fn.levels)
     × ((term : ℕ) → (times l.fn.count (part_of l.fn.levels)).read term l.fn.cursor ≡ behind l.parts ((times (l.fn.count - l.counter) (part_of l.fn.levels)).read term l.cursor))
+
+abbrev pub invariant-read_pairs-loop : goal.invariant-read_pairs-loop
+invariant-read_pairs-loop l = PairsSoFar l.fn.count l.fn.levels l.fn.cursor l.cursor l.pairs l.counter
