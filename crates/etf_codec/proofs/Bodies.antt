@@ -1,5 +1,5 @@
 -- What follows each tag.
-use Rattle.std.proofs.Common.{◌≡◌, ◌≢◌, ℕ, pos, Bool, true, false, ◌==◌, Ok, refl, sym, arith}
+use Rattle.std.proofs.Common.{◌≡◌, ◌≢◌, ℕ, pos, true, false, ◌==◌, Ok, refl, arith}
 use Rattle.std.proofs.lemmas.Bool.Decides.{nat_tests}
 use Rattle.dets_term.specs.TermValue.{integer, nil}
 use Rattle.etf_codec.specs.Format.{Place, byte, changed}

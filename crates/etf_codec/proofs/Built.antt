@@ -1,10 +1,9 @@
 -- Terms that are built within their limits.
-use Rattle.std.proofs.Common.{◌≡◌, ℕ, zero, suc, ◌+◌, ◌<◌, ◌≤◌, ◌^◌, max, pos, true, false, cond, List, [], ◌∷◌, map, length, Result, Ok, Err, nat_lt, nat_le, sym, refl, ap, ◌∙◌, arith}
+use Rattle.std.proofs.Common.{◌≡◌, ℕ, zero, suc, ◌<◌, ◌≤◌, ◌^◌, pos, true, List, [], ◌∷◌, map, length, Result, Ok, Err, nat_lt, nat_le, sym, refl, ap, ◌∙◌, arith}
 use Rattle.std.specs.Prelude.{IfOk, IfErr}
 use Rattle.std.proofs.lemmas.List.{length-map}
 use Rattle.std.proofs.lemmas.Bool.Decides.{nat_tests}
-use Rattle.dets_term.specs.declared.term.TermFault.{TermFault}
-use Rattle.dets_term.specs.TermValue.{TermValue, integer, tuple, nil, chain, elements, is_list, parts_depth, depth}
+use Rattle.dets_term.specs.TermValue.{TermValue, integer, nil, chain, depth}
 use Rattle.dets_term.specs.IsTerm.{built}
 use Rattle.dets_term.specs.Parts.{deepest, parts_depth-chain}
 use Rattle.etf_codec.specs.Layout.{integers}

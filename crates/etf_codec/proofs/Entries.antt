@@ -1,5 +1,5 @@
 -- Entries of a map of keys as pairs of terms.
-use Rattle.std.proofs.Common.{◌≡◌, ℕ, Bool, true, false, cond, ◌||◌, List, [], ◌∷◌, ◌++◌, map, Option, Some, None, refl, ap, sym, ◌∙◌}
+use Rattle.std.proofs.Common.{◌≡◌, Bool, true, false, cond, ◌||◌, List, [], ◌∷◌, Option, Some, refl, ap}
 use Rattle.std.specs.List.{list_any}
 use Rattle.std.specs.Option.{is_some}
 use Rattle.std.specs.BTreeMap.{insert_entry, is_at}
@@ -41,4 +41,4 @@ pairs_of-insert_entry k v [] n = refl
 pairs_of-insert_entry k v (e ∷ entries) n =
     let parts = or_false (is_same k.term e.0.term) (list_any (is_same k.term) (keys (pairs_of entries))) n in
     step (order k.term e.0.term) (k.term, v) (e.0.term, e.1) ((k, v) ∷ e ∷ entries) [] (e ∷ insert_entry key_cmp entries k v) (pairs_of entries) ((e.0, v) ∷ entries)
-        parts.0 refl (ap (λ ps. (e.0.term, e.1) ∷ ps) (pairs_of-insert_entry k v entries parts.1))
+    parts.0 refl (ap (λ ps. (e.0.term, e.1) ∷ ps) (pairs_of-insert_entry k v entries parts.1))

@@ -20,3 +20,4 @@ pub mod PairOrder
 pub mod Entries
 pub mod TermSteps
 pub mod PairsRead
+pub mod Decodings

@@ -1,12 +1,12 @@
 -- Pairs by ascending key, where no key stands twice.
-use Rattle.std.proofs.Common.{◌≡◌, ◌≢◌, ℕ, suc, ◌+◌, ◌<◌, ◌≤◌, ◌^◌, max, Bool, true, false, cond, ◌&&◌, ◌||◌, List, [], ◌∷◌, ◌++◌, map, length, Ok, Err, nat_lt, refl, ap, sym, ◌∙◌, subst, arith}
+use Rattle.std.proofs.Common.{◌≡◌, ℕ, suc, ◌<◌, ◌≤◌, ◌^◌, max, Bool, true, false, cond, ◌&&◌, ◌||◌, List, [], ◌∷◌, ◌++◌, length, Ok, Err, nat_lt, refl, ap, sym, ◌∙◌, arith}
 use Rattle.std.proofs.lemmas.Bool.Decides.{nat_tests}
 use Rattle.std.specs.List.{list_any}
 use Rattle.std.specs.declared.cmp.Ordering.{Ordering}
 use Rattle.std.specs.declared.cmp.Ordering.TheVariants.{Less, Equal, Greater}
 use Rattle.std.specs.Ordering.{is_lt, is_eq, ordering_reverse}
 use Rattle.dets_term.specs.declared.term.TermFault.TheVariants.{RepeatedKey}
-use Rattle.dets_term.specs.TermValue.{TermValue, chain, nil, map_of, parts_depth, depth}
+use Rattle.dets_term.specs.TermValue.{TermValue, map_of, depth}
 use Rattle.dets_term.specs.IsTerm.{built}
 use Rattle.dets_term.specs.Order.{order, is_same}
 use Rattle.dets_term.specs.OrderCode.{order_total}
@@ -104,9 +104,9 @@ by_key-placed p [] n = refl
 by_key-placed p (x ∷ xs) n =
     let parts = or_false (is_same p.0 x.0) (list_any (is_same p.0) (keys xs)) n in
     by (is_lt (order p.0 x.0)) refl parts.0 (by_key-placed p xs parts.1) where
-  by : (b : Bool) → is_lt (order p.0 x.0) ≡ b → is_same p.0 x.0 ≡ false → by_key (placed p xs) ≡ placed p (by_key xs) → by_key (placed p (x ∷ xs)) ≡ placed p (by_key (x ∷ xs))
-  by true e away rest = ap by_key (placed_lt p x xs e)
-  by false e away rest = ap by_key (placed_ge p x xs e) ∙ ap (placed x) rest ∙ sym (placed-placed p x (by_key xs) away)
+      by : (b : Bool) → is_lt (order p.0 x.0) ≡ b → is_same p.0 x.0 ≡ false → by_key (placed p xs) ≡ placed p (by_key xs) → by_key (placed p (x ∷ xs)) ≡ placed p (by_key (x ∷ xs))
+      by true e away rest = ap by_key (placed_lt p x xs e)
+      by false e away rest = ap by_key (placed_ge p x xs e) ∙ ap (placed x) rest ∙ sym (placed-placed p x (by_key xs) away)
 
 -- pairs by key are in order
 pub by_key-by_key : (ps : List (TermValue × TermValue)) → repeats (keys ps) ≡ false → by_key (by_key ps) ≡ by_key ps
@@ -122,12 +122,12 @@ repeats-placed p (x ∷ xs) n apart =
     let parts = or_false (is_same p.0 x.0) (list_any (is_same p.0) (keys xs)) n in
     let rest = or_false (list_any (is_same x.0) (keys xs)) (repeats (keys xs)) apart in
     by (is_lt (order p.0 x.0)) refl parts.0 rest.0 (repeats-placed p xs parts.1 rest.1) where
-  by : (b : Bool) → is_lt (order p.0 x.0) ≡ b → is_same p.0 x.0 ≡ false → list_any (is_same x.0) (keys xs) ≡ false → repeats (keys (placed p xs)) ≡ false
-      → repeats (keys (placed p (x ∷ xs))) ≡ false
-  by true e away alone rest = ap (λ ys. repeats (keys ys)) (placed_lt p x xs e) ∙ ap (λ b. b || repeats (keys (x ∷ xs))) n ∙ apart
-  by false e away alone rest =
-      let any : list_any (is_same x.0) (keys (placed p xs)) ≡ false = any-placed (is_same x.0) p xs ∙ ap (λ b. b || list_any (is_same x.0) (keys xs)) (same_back p.0 x.0 ∙ away) ∙ alone in
-      ap (λ ys. repeats (keys ys)) (placed_ge p x xs e) ∙ ap (λ b. b || repeats (keys (placed p xs))) any ∙ rest
+      by : (b : Bool) → is_lt (order p.0 x.0) ≡ b → is_same p.0 x.0 ≡ false → list_any (is_same x.0) (keys xs) ≡ false → repeats (keys (placed p xs)) ≡ false
+          → repeats (keys (placed p (x ∷ xs))) ≡ false
+      by true e away alone rest = ap (λ ys. repeats (keys ys)) (placed_lt p x xs e) ∙ ap (λ b. b || repeats (keys (x ∷ xs))) n ∙ apart
+      by false e away alone rest =
+          let any : list_any (is_same x.0) (keys (placed p xs)) ≡ false = any-placed (is_same x.0) p xs ∙ ap (λ b. b || list_any (is_same x.0) (keys xs)) (same_back p.0 x.0 ∙ away) ∙ alone in
+          ap (λ ys. repeats (keys ys)) (placed_ge p x xs e) ∙ ap (λ b. b || repeats (keys (placed p xs))) any ∙ rest
 
 pub repeats-by_key : (ps : List (TermValue × TermValue)) → repeats (keys ps) ≡ false → repeats (keys (by_key ps)) ≡ false
 repeats-by_key [] n = refl

@@ -14,3 +14,4 @@ pub mod KeyOrder
 pub mod Keyed
 pub mod Fronts
 pub mod Moved
+pub mod Decoding

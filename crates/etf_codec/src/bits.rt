@@ -21,7 +21,11 @@ pub(crate) fn read_binary(alloc: Global, cursor: &mut Cursor<'_>) -> Result<Term
 
 /// The bit string that begins at an offset, with the number of used bits in its last byte. Its unused bits are passed
 /// over.
-pub(crate) fn read_bit_binary(alloc: Global, cursor: &mut Cursor<'_>, term: u64) -> Result<Term, EtfFault>
+pub(crate) fn read_bit_binary(
+    alloc: Global,
+    cursor: &mut Cursor<'_>,
+    term: u64,
+) -> Result<Term, EtfFault>
     ensures reads { ReadsWithin bit_binary term cursor.old cursor.new result }
     ensures leaf { IfOk result IsLeaf }
 {

@@ -3,6 +3,7 @@
 //! Stands on `dets_term`, and on `bstr` for UTF-8.
 #![tactic(auto)]
 
+pub use decoding::decode;
 pub use fault::EtfFault;
 pub use std::alloc::AllocError as Memory;
 
@@ -10,6 +11,7 @@ mod atoms;
 mod bits;
 mod building;
 mod cursor;
+mod decoding;
 mod fault;
 mod key;
 mod keyed;

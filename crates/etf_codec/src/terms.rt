@@ -190,7 +190,7 @@ fn read_pairs(
 }
 
 /// Whether a tag begins a term.
-fn is_known_tag(tag: u8) -> bool
+pub(crate) fn is_known_tag(tag: u8) -> bool
     ensures { result ≡ is_known tag }
 {
     matches!(tag, 77 | 97 | 98 | 100 | 104..=111 | 115 | 116 | 118 | 119)

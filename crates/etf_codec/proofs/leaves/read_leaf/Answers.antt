@@ -1,4 +1,4 @@
-use Rattle.std.proofs.Common.{◌∙◌, pos, true, false, arith}
+use Rattle.std.proofs.Common.{pos, true, false, arith}
 use Rattle.dets_term.specs.TermValue.{integer}
 use Rattle.etf_codec.specs.Format.{byte, changed}
 use Rattle.etf_codec.specs.Layout.{signed_32}

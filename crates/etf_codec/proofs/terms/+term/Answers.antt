@@ -1,4 +1,4 @@
-use Rattle.std.proofs.Common.{◌≡◌, ◌<◌, ◌≤◌, ◌^◌, ◌+◌, ◌-◌, ◌∙◌, ℕ, suc, length, [], Ok, Err, ap, sym, subst, List, ◌∷◌, inl, inr, arith}
+use Rattle.std.proofs.Common.{◌+◌, ◌-◌, ◌∙◌, suc, length, [], Err, ap, sym, subst, List, ◌∷◌, inr, arith}
 use Rattle.std.proofs.lemmas.List.{length-append}
 use Rattle.dets_term.specs.TermValue.{TermValue, tuple, chain, nil, map_of}
 use Rattle.dets_term.specs.Pairs.{keys, repeats, by_key}
@@ -161,13 +161,14 @@ read_parts-returns-in_err-read_part-clause-reads t c term =
 
 pub read_parts-loop-preserved : goal.read_parts-loop-preserved
 read_parts-loop-preserved t c =
-    let pushed = c.in_ok-push.ensures.ok in
-    (ap length pushed ∙ length-append c.loop.parts (c.in_ok-read_part.field-0 ∷ []) ∙ omega (arith, c.loop.invariant.0),
-     omega (arith, ap deepest pushed, deepest-push c.loop.parts c.in_ok-read_part.field-0, c.loop.invariant.1, c.in_ok-read_part.ensures.shallow),
-     λ term. c.loop.invariant.2 term
-        ∙ behind_more (part_of c.args.levels) c.loop.parts (c.args.count - c.loop.counter) term c.loop.cursor c.read_part.new.cursor c.in_ok-read_part.field-0 (omega arith) (c.in_ok-read_part.ensures.reads term)
-        ∙ ap (λ ts. behind ts ((times (c.args.count - c.loop.counter - 1) (part_of c.args.levels)).read term c.read_part.new.cursor)) (sym pushed)
-        ∙ ap (λ n. behind c.push.new.self ((times n (part_of c.args.levels)).read term c.read_part.new.cursor)) (omega arith))
+    let pushed = c.in_ok-push.ensures.ok in (
+      ap length pushed ∙ length-append c.loop.parts (c.in_ok-read_part.field-0 ∷ []) ∙ omega (arith, c.loop.invariant.0),
+      omega (arith, ap deepest pushed, deepest-push c.loop.parts c.in_ok-read_part.field-0, c.loop.invariant.1, c.in_ok-read_part.ensures.shallow),
+      λ term. c.loop.invariant.2 term
+          ∙ behind_more (part_of c.args.levels) c.loop.parts (c.args.count - c.loop.counter) term c.loop.cursor c.read_part.new.cursor c.in_ok-read_part.field-0 (omega arith) (c.in_ok-read_part.ensures.reads term)
+          ∙ ap (λ ts. behind ts ((times (c.args.count - c.loop.counter - 1) (part_of c.args.levels)).read term c.read_part.new.cursor)) (sym pushed)
+          ∙ ap (λ n. behind c.push.new.self ((times n (part_of c.args.levels)).read term c.read_part.new.cursor)) (omega arith),
+    )
 
 pub read_pairs-returns-in_err-term-clause-reads : goal.read_pairs-returns-in_err-term-clause-reads
 read_pairs-returns-in_err-term-clause-reads t c term =
@@ -178,22 +179,22 @@ read_pairs-returns-in_err-term-clause-reads t c term =
 pub read_pairs-returns-then-has-clause-reads : goal.read_pairs-returns-then-has-clause-reads
 read_pairs-returns-then-has-clause-reads t c term =
     inr (go_on_err _ _ _ (key_again c.args.count c.args.levels term c.args.cursor.now c.loop.cursor c.read_part.new.cursor c.loop.pairs c.loop.counter c.in_ok-term.term
-        c.loop.invariant (omega arith) c.in_ok-term.ensures.reads (sym c.if-has.ensures))
+    c.loop.invariant (omega arith) c.in_ok-term.ensures.reads (sym c.if-has.ensures))
     ∙ ap (λ at. Err (RepeatedKey at)) (sym c.offset-start.ensures))
 
 pub read_pairs-returns-in_err-value-clause-reads : goal.read_pairs-returns-in_err-value-clause-reads
 read_pairs-returns-in_err-value-clause-reads t c term =
     within_rest (changed (pairs_after (part_of c.args.levels) [] c.args.count) by_key) term c.args.cursor.now c.read_part-in-loop.new.cursor c.from_residual-in_err-value.result _
-        c.from_residual-in_err-value.ensures.1
+    c.from_residual-in_err-value.ensures.1
     (or_else (λ e. go_on_err _ _ _ (no_value c.args.count c.args.levels term c.args.cursor.now c.loop.cursor c.read_part.new.cursor c.loop.pairs c.loop.counter c.in_ok-term.term _
-        c.loop.invariant (omega arith) c.in_ok-term.ensures.reads (sym c.if-has.ensures) e))
+    c.loop.invariant (omega arith) c.in_ok-term.ensures.reads (sym c.if-has.ensures) e))
     (c.in_err-value.ensures.reads term))
 
 pub read_pairs-loop-preserved : goal.read_pairs-loop-preserved
 read_pairs-loop-preserved t c =
     subst (λ (ps : List (TermValue × TermValue)). PairsSoFar c.args.count c.args.levels c.args.cursor.now c.read_part-in-loop.new.cursor ps (c.loop.counter + 1)) (sym c.in_ok-insert.ensures)
     (one_more c.args.count c.args.levels c.args.cursor.now c.loop.cursor c.read_part.new.cursor c.read_part-in-loop.new.cursor c.loop.pairs c.loop.counter c.in_ok-term.term c.in_ok-value.value
-        c.loop.invariant (omega arith) c.in_ok-term.ensures.reads (sym c.if-has.ensures) c.in_ok-value.ensures.reads c.in_ok-term.ensures.shallow c.in_ok-value.ensures.shallow)
+    c.loop.invariant (omega arith) c.in_ok-term.ensures.reads (sym c.if-has.ensures) c.in_ok-value.ensures.reads c.in_ok-term.ensures.shallow c.in_ok-value.ensures.shallow)
 
 pub read_pairs-returns-clause-apart : goal.read_pairs-returns-clause-apart
 read_pairs-returns-clause-apart t c =

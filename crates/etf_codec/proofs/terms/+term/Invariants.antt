@@ -1,10 +1,7 @@
-use Rattle.std.proofs.Common.{◌≡◌, ℕ, ◌+◌, ◌*◌, ◌-◌, ◌≤◌, length, [], false}
-use Rattle.dets_term.specs.TermValue.{TermValue}
-use Rattle.dets_term.specs.Parts.{deepest, deepest_of_pairs}
-use Rattle.dets_term.specs.Pairs.{keys, repeats, by_key}
+use Rattle.std.proofs.Common.{◌≡◌, ℕ, ◌+◌, ◌*◌, ◌-◌, ◌≤◌, length}
+use Rattle.dets_term.specs.Parts.{deepest}
 use Rattle.etf_codec.specs.Format.{times}
 use Rattle.etf_codec.specs.Reads.{part_of}
-use Rattle.etf_codec.specs.Spelling.{pairs_after}
 use Rattle.etf_codec.proofs.Collecting.{behind}
 use Rattle.etf_codec.proofs.PairsRead.{PairsSoFar}
 use Rattle.etf_codec.proofs.terms.+term.Given as goal
