@@ -1,5 +1,5 @@
 -- Neighbours in a list, by places and by recursion.
-use Rattle.std.proofs.Common.{◌≡◌, ℕ, zero, suc, ◌+◌, ◌<◌, List, [], ◌∷◌, length, get_or, subst, sym, arith}
+use Rattle.std.proofs.Common.{◌≡◌, ℕ, zero, suc, ◌+◌, ◌<◌, List, [], ◌∷◌, length, get_or, subst, arith}
 
 -- R holds of an element and the first one of a list, where there is one
 abbrev pub Starts : {X : Type 0} → (X → X → Type 0) → X → List X → Type 0

@@ -1,5 +1,5 @@
 -- What building a map of sorted pairs answers.
-use Rattle.std.proofs.Common.{◌≡◌, ℕ, suc, ◌<◌, ◌≤◌, ◌^◌, Bool, true, false, ◌&&◌, cond, nat_lt, nat_le, Ok, Err, List, ◌⊎◌, inl, inr, length, refl, ap, ◌∙◌, sym, arith}
+use Rattle.std.proofs.Common.{◌≡◌, ℕ, suc, ◌<◌, ◌≤◌, ◌^◌, true, false, ◌&&◌, cond, nat_lt, nat_le, Ok, Err, List, ◌⊎◌, inl, inr, length, ap, ◌∙◌, sym, arith}
 use Rattle.std.specs.List.Sorted.{IsPermutation}
 use Rattle.std.proofs.lemmas.Bool.{lt-ltb, le-ltb, and_right, and_left, cases_lt}
 use Rattle.dets_term.specs.declared.term.TermFault.{TermFault}

@@ -5,7 +5,7 @@ use Rattle.std.proofs.lemmas.List.{length-map}
 use Rattle.std.proofs.lemmas.List.Elements.{recursion_from_All, All-from_recursion}
 use Rattle.std.proofs.lemmas.List.Recursion.{max_bounds, max_least}
 use Rattle.std.proofs.lemmas.List.Sorted.{IsPermutation-sym, All-permutation}
-use Rattle.dets_term.specs.TermValue.{TermValue, nil, chain, map_of, elements, depth}
+use Rattle.dets_term.specs.TermValue.{TermValue, nil, map_of, depth}
 use Rattle.dets_term.specs.IsTerm.{IsTerm, IsBounded, AreAscending}
 use Rattle.dets_term.specs.Parts.{AreTerms, ArePairs, deepest_of_pairs, elements-chain, IsProper-chain, IsBounded-chain}
 use Rattle.dets_term.specs.Pairs.{keys}

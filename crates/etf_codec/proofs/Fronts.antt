@@ -93,10 +93,10 @@ pub last_breaks : (start : ℕ) (bytes : List ℕ) (fault : EtfFault) → IsBrea
 last_breaks start bytes fault b = spelling-sharp.break_sharp start start bytes fault b
 
 -- of two fronts of the same bytes the second is a front of the first, or the first one a front of the second without its last byte
-abbrev pub IsWithin : (front other : List ℕ) → Type 0
+abbrev IsWithin : (front other : List ℕ) → Type 0
 IsWithin front other = (k : ℕ) × (more : List ℕ) × (other ≡ front ++ (k ∷ more))
 
-pub fronts : (front rest other more : List ℕ) → front ++ rest ≡ other ++ more → (front ≡ other) ⊎ (IsWithin front other ⊎ IsWithin other front)
+fronts : (front rest other more : List ℕ) → front ++ rest ≡ other ++ more → (front ≡ other) ⊎ (IsWithin front other ⊎ IsWithin other front)
 fronts [] rest [] more e = inl refl
 fronts [] rest (y ∷ other) more e = inr (inl (y, other, refl))
 fronts (x ∷ front) rest [] more e = inr (inr (x, front, refl))
@@ -111,7 +111,7 @@ fronts (x ∷ front) rest (y ∷ other) more e =
     with_rest same (inr (inr (k, tail, e))) = inr (inr (k, tail, cc))
 
 -- what is within one more byte is within the others
-pub within_one_more : (front tail part : List ℕ) (k last : ℕ) → front ++ (k ∷ tail) ≡ part ++ last ∷ [] → (rest : List ℕ) × (part ≡ front ++ rest)
+within_one_more : (front tail part : List ℕ) (k last : ℕ) → front ++ (k ∷ tail) ≡ part ++ last ∷ [] → (rest : List ℕ) × (part ≡ front ++ rest)
 within_one_more [] tail part k last e = (part, refl)
 within_one_more (x ∷ front) tail [] k last e =
     let none : front ++ (k ∷ tail) ≡ [] = cc in absurd (not_none front none)

@@ -5,6 +5,14 @@ pub mod Magnitudes
 pub mod Counts
 pub mod HandedOn
 pub mod Naming
+pub mod FewestBytes
+pub mod Packing
+pub mod CanonicalParts
+pub mod CanonicalWholes
+pub mod WholeFormats
+pub mod WholeLeaves
+pub mod WholeTerms
+pub mod CanonicalSpells
 pub mod Exactness
 pub mod SpellingExact
 pub mod Sharpness
@@ -12,7 +20,6 @@ pub mod SpellingSharp
 pub mod Moving
 pub mod SpellingMoves
 pub mod Fronts
-pub mod Rows
 pub mod Built
 pub mod Bodies
 pub mod Collecting
@@ -21,3 +28,5 @@ pub mod Entries
 pub mod TermSteps
 pub mod PairsRead
 pub mod Decodings
+pub mod ByReading
+pub mod Computing

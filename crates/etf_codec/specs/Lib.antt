@@ -12,6 +12,7 @@ pub mod Spelling
 pub mod Reads
 pub mod KeyOrder
 pub mod Keyed
+pub mod Canonical
 pub mod Fronts
 pub mod Moved
 pub mod Decoding

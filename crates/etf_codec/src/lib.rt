@@ -4,6 +4,7 @@
 #![tactic(auto)]
 
 pub use decoding::decode;
+pub use encoding::encode;
 pub use fault::EtfFault;
 pub use std::alloc::AllocError as Memory;
 
@@ -12,11 +13,14 @@ mod bits;
 mod building;
 mod cursor;
 mod decoding;
+mod encoding;
+pub mod encoding_laws;
 mod fault;
 mod key;
 mod keyed;
 pub mod laws;
 mod leaves;
 mod numbers;
+pub mod rows;
 mod strings;
 mod terms;

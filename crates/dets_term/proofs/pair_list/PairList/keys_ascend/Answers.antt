@@ -1,4 +1,4 @@
-use Rattle.std.proofs.Common.{◌≡◌, ◌↔◌, IsTrue, ◌∙◌, subst, rules, is_lt}
+use Rattle.std.proofs.Common.{◌↔◌, IsTrue, ◌∙◌, subst, rules, is_lt}
 use Rattle.std.proofs.lemmas.List.Sorted.{answers_always}
 use Rattle.dets_term.specs.Order.{order}
 use Rattle.dets_term.specs.IsTerm.{AreAscending}

@@ -1,4 +1,4 @@
-use Rattle.std.proofs.Common.{◌≡◌, sym, ◌∙◌, ap, rules, is_lt}
+use Rattle.std.proofs.Common.{sym, ◌∙◌, rules, is_lt}
 use Rattle.std.proofs.lemmas.List.Sorted.{ranks_by, answers_always}
 use Rattle.dets_term.specs.TermValue.{TermValue}
 use Rattle.dets_term.specs.Order.{order}
