@@ -4,7 +4,7 @@ use Rattle.std.proofs.lemmas.Bool.Decides.{nat_tests}
 use Rattle.dets_term.specs.TermValue.{integer, nil}
 use Rattle.etf_codec.specs.Format.{Place, byte, changed}
 use Rattle.etf_codec.specs.Layout.{signed_32}
-use Rattle.etf_codec.specs.Reads.{part_of, tail_of, body_of}
+use Rattle.etf_codec.specs.ReadTerms.{part_of, tail_of, body_of}
 use Rattle.etf_codec.specs.Spelling.{number, big_integer, name, binary, bit_binary, string, tuple_of, list_of, map_format}
 
 apart : (tag n : ℕ) → tag ≢ n → (tag == n) ≡ false

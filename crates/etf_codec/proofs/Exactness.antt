@@ -1,9 +1,10 @@
 -- The reading of a format that is put together agrees with its relations where its parts' do.
-use Rattle.std.proofs.Common.{◌≡◌, ◌≢◌, ℕ, zero, suc, ◌+◌, Bool, true, false, List, [], ◌∷◌, ◌++◌, length, length-append, Ok, Err, inl, inr, refl, ap, ◌∙◌, sym, subst, append_assoc, arith}
+use Rattle.std.proofs.Common.{◌≡◌, ◌≢◌, ℕ, ◌+◌, Bool, true, false, List, [], ◌∷◌, ◌++◌, length, length-append, Ok, Err, inl, inr, refl, ap, ◌∙◌, sym, subst, append_assoc, arith}
 use Rattle.etf_codec.specs.declared.fault.EtfFault.{EtfFault}
 use Rattle.etf_codec.specs.declared.fault.EtfFault.TheVariants.{Short}
-use Rattle.etf_codec.specs.Format.{Place, Reading, Format, first_byte, byte, give, go_on, followed, judged, tested, framed, changed, either, times, refused}
+use Rattle.etf_codec.specs.Format.{Place, Reading, Format, first_byte, byte, give, go_on, followed, judged, tested, framed}
 use Rattle.etf_codec.specs.Exact.{Between, Begins, IsExact}
+use Rattle.etf_codec.proofs.Kept.{IsKept}
 
 -- one answer is of one value and one place
 pub same_answer : {A : Type 0} (x y : A) (p q : Place) → ◌≡◌ {A = Reading A} (Ok (x, p)) (Ok (y, q)) → (x ≡ y) × (p ≡ q)
@@ -60,9 +61,9 @@ give-exact {A} value = record {
   break_fault = λ term here bytes fault h. absurd h;
 }
 
--- ---- one behind the other
+-- ---- one behind the other; the second only where it is read
 
-module _ {A B : Type 0} (F : Format A) (G : A → Format B) (f : IsExact F) (g : (x : A) → IsExact (G x)) where
+module _ {A B : Type 0} (F : Format A) (G : A → Format B) (f : IsExact F) (g : (x : A) (front : List ℕ) → F.Whole x front → IsExact (G x)) where
   -- how the second reads behind the first
   abbrev behind_first : ℕ → A → Place → Reading B
   behind_first term x behind = (G x).read term behind
@@ -72,7 +73,7 @@ module _ {A B : Type 0} (F : Format A) (G : A → Format B) (f : IsExact F) (g :
   followed_whole term place y behind (Err fault) e h = cc
   followed_whole term place y behind (Ok (x, mid)) e h =
       let first = f.read_whole term place x mid e in
-      let second = (g x).read_whole term mid y behind h in
+      let second = (g x first.front first.holds).read_whole term mid y behind h in
       record {
         front = first.front ++ second.front;
         holds = record { value = x; front = first.front; rest = second.front; first = first.holds; second = second.holds; whole = refl };
@@ -85,7 +86,7 @@ module _ {A B : Type 0} (F : Format A) (G : A → Format B) (f : IsExact F) (g :
   followed_part term place (Err fault) e h = let same : fault ≡ Short = cc in inl (f.read_part term place (e ∙ ap Err same))
   followed_part term place (Ok (x, mid)) e h =
       let first = f.read_whole term place x mid e in
-      inr (record { value = x; front = first.front; rest = mid.left; first = first.holds; second = (g x).read_part term mid h; whole = first.bytes })
+      inr (record { value = x; front = first.front; rest = mid.left; first = first.holds; second = (g x first.front first.holds).read_part term mid h; whole = first.bytes })
 
   followed_break : (term : ℕ) (place : Place) (fault : EtfFault) (r : Reading A) → F.read term place ≡ r
       → go_on r (behind_first term) ≡ Err fault → fault ≢ Short → Begins (λ front. (followed F G).Break term place.offset front fault) place.left
@@ -95,7 +96,7 @@ module _ {A B : Type 0} (F : Format A) (G : A → Format B) (f : IsExact F) (g :
       record { front = first.front; rest = first.rest; holds = inl first.holds; whole = first.whole }
   followed_break term place fault (Ok (x, mid)) e h more =
       let first = f.read_whole term place x mid e in
-      let second = (g x).read_break term mid fault h more in
+      let second = (g x first.front first.holds).read_break term mid fault h more in
       record {
         front = first.front ++ second.front;
         rest = second.rest;
@@ -115,25 +116,25 @@ module _ {A B : Type 0} (F : Format A) (G : A → Format B) (f : IsExact F) (g :
   whole_followed term here y bytes rest j =
       let offset : here + length j.front + length j.rest ≡ here + length bytes = omega (arith, ap length j.whole, length-append j.front j.rest) in
       past_first term here j.value j.front (j.rest ++ rest) (bytes ++ rest) j.first (ap (λ l. l ++ rest) j.whole ∙ append_assoc j.front j.rest rest)
-      ∙ (g j.value).whole_read term (here + length j.front) y j.rest rest j.second
+      ∙ (g j.value j.front j.first).whole_read term (here + length j.front) y j.rest rest j.second
       ∙ ap (λ (n : ℕ). Ok (y, record { offset = n; left = rest })) offset
 
   part_followed : (term here : ℕ) (bytes : List ℕ) → (followed F G).Part bytes
       → (followed F G).read term (record { offset = here; left = bytes }) ≡ Err Short
   part_followed term here bytes (inl p) = ap (λ r. go_on r (behind_first term)) (f.part_read term here bytes p)
   part_followed term here bytes (inr j) =
-      past_first term here j.value j.front j.rest bytes j.first j.whole ∙ (g j.value).part_read term (here + length j.front) j.rest j.second
+      past_first term here j.value j.front j.rest bytes j.first j.whole ∙ (g j.value j.front j.first).part_read term (here + length j.front) j.rest j.second
 
   break_followed : (term here : ℕ) (bytes rest : List ℕ) (fault : EtfFault) → (followed F G).Break term here bytes fault
       → (followed F G).read term (record { offset = here; left = bytes ++ rest }) ≡ Err fault
   break_followed term here bytes rest fault (inl p) = ap (λ r. go_on r (behind_first term)) (f.break_read term here bytes rest fault p)
   break_followed term here bytes rest fault (inr j) =
       past_first term here j.value j.front (j.rest ++ rest) (bytes ++ rest) j.first (ap (λ l. l ++ rest) j.whole ∙ append_assoc j.front j.rest rest)
-      ∙ (g j.value).break_read term (here + length j.front) j.rest rest fault j.second
+      ∙ (g j.value j.front j.first).break_read term (here + length j.front) j.rest rest fault j.second
 
   followed_fault : (term here : ℕ) (bytes : List ℕ) (fault : EtfFault) → (followed F G).Break term here bytes fault → fault ≢ Short
   followed_fault term here bytes fault (inl p) = f.break_fault term here bytes fault p
-  followed_fault term here bytes fault (inr j) = (g j.value).break_fault term (here + length j.front) j.rest fault j.second
+  followed_fault term here bytes fault (inr j) = (g j.value j.front j.first).break_fault term (here + length j.front) j.rest fault j.second
 
   pub followed-exact : IsExact (followed F G)
   followed-exact = record {
@@ -145,9 +146,6 @@ module _ {A B : Type 0} (F : Format A) (G : A → Format B) (f : IsExact F) (g :
     break_read = break_followed;
     break_fault = followed_fault;
   }
-
-pub changed-exact : {A B : Type 0} (F : Format A) (f : A → B) → IsExact F → IsExact (changed F f)
-changed-exact F f e = followed-exact F (λ x. give (f x)) e (λ x. give-exact (f x))
 
 -- ---- a test
 
@@ -234,24 +232,11 @@ framed-exact F f = record {
   break_fault = λ term here bytes fault h. f.break_fault here here bytes fault h;
 }
 
-pub either-exact : {A : Type 0} (b : Bool) (F G : Format A) → IsExact F → IsExact G → IsExact (either b F G)
-either-exact true F G f g = f
-either-exact false F G f g = g
-
-pub times-exact : {A : Type 0} (n : ℕ) (F : Format A) → IsExact F → IsExact (times n F)
-times-exact zero F f = give-exact []
-times-exact (suc n) F f =
-    followed-exact F (λ x. changed (times n F) (λ xs. x ∷ xs)) f (λ x. changed-exact (times n F) (λ xs. x ∷ xs) (times-exact n F f))
-
-pub refused-exact : {A : Type 0} (fault : ℕ → EtfFault) → ((term : ℕ) → fault term ≢ Short) → IsExact (refused {A = A} fault)
-refused-exact {A} fault g = record {
-  read_whole = λ term place x behind e. let clash : ⊥ = cc in absurd clash;
-  read_part = λ term place e. let same : fault place.offset ≡ Short = cc in absurd (g place.offset same);
-  read_break = λ term place why e other.
-      let same : why ≡ fault place.offset = cc in
-      record { front = []; rest = place.left; holds = (refl, same); whole = refl };
-  whole_read = λ term here x front rest h. absurd h;
-  part_read = λ term here bytes h. absurd h;
-  break_read = λ term here front rest why h. ap Err (sym h.1);
-  break_fault = λ term here bytes why h e. g here (sym h.1 ∙ e);
+pub exact-kept : IsKept (λ A F. IsExact F)
+exact-kept = record {
+  of_byte = byte-exact;
+  of_give = give-exact;
+  of_followed = followed-exact;
+  of_tested = λ F test fault tells some f. tested-exact F test fault f (λ term x _. tells.not_short term x);
+  of_framed = framed-exact;
 }

@@ -8,7 +8,7 @@ use Rattle.dets_term.specs.TermValue.{TermValue, atom}
 use Rattle.etf_codec.specs.declared.fault.EtfFault.{EtfFault}
 use Rattle.etf_codec.specs.declared.fault.EtfFault.TheVariants.{Memory, BadAtom}
 use Rattle.etf_codec.specs.Layout.{is_name}
-use Rattle.etf_codec.specs.Reads.{IsAtomOf}
+use Rattle.etf_codec.specs.ReadTerms.{IsAtomOf}
 
 short_passes : (n : ℕ) → n ≤ 255 → nat_le n 255 ≡ true
 short_passes n h = grind (arith, nat_tests)

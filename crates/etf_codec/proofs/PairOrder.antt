@@ -84,22 +84,12 @@ any-placed test p (x ∷ xs) = by (is_lt (order p.0 x.0)) refl (any-placed test 
       ap (λ ys. list_any test (keys ys)) (placed_ge p x xs e) ∙ ap (λ b. test x.0 || b) rest
       ∙ or_swap (test x.0) (test p.0) (list_any test (keys xs))
 
-pub any-by_key : (test : TermValue → Bool) (ps : List (TermValue × TermValue)) → list_any test (keys (by_key ps)) ≡ list_any test (keys ps)
-any-by_key test [] = refl
-any-by_key test (p ∷ ps) = any-placed test p (by_key ps) ∙ ap (λ b. test p.0 || b) (any-by_key test ps)
-
 or_false : (a b : Bool) → a || b ≡ false → (a ≡ false) × (b ≡ false)
 or_false true b e = cc
 or_false false b e = (refl, e)
 
--- a pair behind others whose keys are apart from its own
-pub by_key-push : (ps : List (TermValue × TermValue)) (p : TermValue × TermValue) → list_any (is_same p.0) (keys ps) ≡ false → by_key (ps ++ p ∷ []) ≡ placed p (by_key ps)
-by_key-push [] p n = refl
-by_key-push (q ∷ ps) p n =
-    let parts = or_false (is_same p.0 q.0) (list_any (is_same p.0) (keys ps)) n in
-    ap (placed q) (by_key-push ps p parts.1) ∙ sym (placed-placed p q (by_key ps) parts.0)
-
-by_key-placed : (p : TermValue × TermValue) (xs : List (TermValue × TermValue)) → list_any (is_same p.0) (keys xs) ≡ false → by_key (placed p xs) ≡ placed p (by_key xs)
+-- a new pair in its place keeps the order
+pub by_key-placed : (p : TermValue × TermValue) (xs : List (TermValue × TermValue)) → list_any (is_same p.0) (keys xs) ≡ false → by_key (placed p xs) ≡ placed p (by_key xs)
 by_key-placed p [] n = refl
 by_key-placed p (x ∷ xs) n =
     let parts = or_false (is_same p.0 x.0) (list_any (is_same p.0) (keys xs)) n in
@@ -108,15 +98,8 @@ by_key-placed p (x ∷ xs) n =
       by true e away rest = ap by_key (placed_lt p x xs e)
       by false e away rest = ap by_key (placed_ge p x xs e) ∙ ap (placed x) rest ∙ sym (placed-placed p x (by_key xs) away)
 
--- pairs by key are in order
-pub by_key-by_key : (ps : List (TermValue × TermValue)) → repeats (keys ps) ≡ false → by_key (by_key ps) ≡ by_key ps
-by_key-by_key [] n = refl
-by_key-by_key (p ∷ ps) n =
-    let parts = or_false (list_any (is_same p.0) (keys ps)) (repeats (keys ps)) n in
-    by_key-placed p (by_key ps) (any-by_key (is_same p.0) ps ∙ parts.0) ∙ ap (placed p) (by_key-by_key ps parts.1)
-
 -- a key that is apart from others keeps all apart
-repeats-placed : (p : TermValue × TermValue) (xs : List (TermValue × TermValue)) → list_any (is_same p.0) (keys xs) ≡ false → repeats (keys xs) ≡ false → repeats (keys (placed p xs)) ≡ false
+pub repeats-placed : (p : TermValue × TermValue) (xs : List (TermValue × TermValue)) → list_any (is_same p.0) (keys xs) ≡ false → repeats (keys xs) ≡ false → repeats (keys (placed p xs)) ≡ false
 repeats-placed p [] n apart = refl
 repeats-placed p (x ∷ xs) n apart =
     let parts = or_false (is_same p.0 x.0) (list_any (is_same p.0) (keys xs)) n in
@@ -129,48 +112,22 @@ repeats-placed p (x ∷ xs) n apart =
           let any : list_any (is_same x.0) (keys (placed p xs)) ≡ false = any-placed (is_same x.0) p xs ∙ ap (λ b. b || list_any (is_same x.0) (keys xs)) (same_back p.0 x.0 ∙ away) ∙ alone in
           ap (λ ys. repeats (keys ys)) (placed_ge p x xs e) ∙ ap (λ b. b || repeats (keys (placed p xs))) any ∙ rest
 
-pub repeats-by_key : (ps : List (TermValue × TermValue)) → repeats (keys ps) ≡ false → repeats (keys (by_key ps)) ≡ false
-repeats-by_key [] n = refl
-repeats-by_key (p ∷ ps) n =
-    let parts = or_false (list_any (is_same p.0) (keys ps)) (repeats (keys ps)) n in
-    repeats-placed p (by_key ps) (any-by_key (is_same p.0) ps ∙ parts.0) (repeats-by_key ps parts.1)
-
-any-push : (k : TermValue) (ps : List (TermValue × TermValue)) (p : TermValue × TermValue) → list_any (is_same k) (keys (ps ++ p ∷ [])) ≡ is_same k p.0 || list_any (is_same k) (keys ps)
-any-push k [] p = refl
-any-push k (q ∷ ps) p = ap (λ b. is_same k q.0 || b) (any-push k ps p) ∙ or_swap (is_same k q.0) (is_same k p.0) (list_any (is_same k) (keys ps))
-
-pub repeats-push : (ps : List (TermValue × TermValue)) (p : TermValue × TermValue) → repeats (keys ps) ≡ false → list_any (is_same p.0) (keys ps) ≡ false → repeats (keys (ps ++ p ∷ [])) ≡ false
-repeats-push [] p apart n = refl
-repeats-push (q ∷ ps) p apart n =
-    let parts = or_false (is_same p.0 q.0) (list_any (is_same p.0) (keys ps)) n in
-    let rest = or_false (list_any (is_same q.0) (keys ps)) (repeats (keys ps)) apart in
-    let any : list_any (is_same q.0) (keys (ps ++ p ∷ [])) ≡ false = any-push q.0 ps p ∙ ap (λ b. b || list_any (is_same q.0) (keys ps)) (same_back p.0 q.0 ∙ parts.0) ∙ rest.0 in
-    ap (λ b. b || repeats (keys (ps ++ p ∷ []))) any ∙ repeats-push ps p rest.1 parts.1
-
 -- ---- sizes
 
-length-placed : (p : TermValue × TermValue) (xs : List (TermValue × TermValue)) → length (placed p xs) ≡ suc (length xs)
+pub length-placed : (p : TermValue × TermValue) (xs : List (TermValue × TermValue)) → length (placed p xs) ≡ suc (length xs)
 length-placed p [] = refl
 length-placed p (x ∷ xs) = by (is_lt (order p.0 x.0)) refl (length-placed p xs) where
   by : (b : Bool) → is_lt (order p.0 x.0) ≡ b → length (placed p xs) ≡ suc (length xs) → length (placed p (x ∷ xs)) ≡ suc (suc (length xs))
   by true e rest = ap length (placed_lt p x xs e)
   by false e rest = ap length (placed_ge p x xs e) ∙ ap suc rest
 
-pub length-by_key : (ps : List (TermValue × TermValue)) → length (by_key ps) ≡ length ps
-length-by_key [] = refl
-length-by_key (p ∷ ps) = length-placed p (by_key ps) ∙ ap suc (length-by_key ps)
-
-deepest-placed : (p : TermValue × TermValue) (xs : List (TermValue × TermValue)) → deepest_of_pairs (placed p xs) ≡ max (max (depth p.0) (depth p.1)) (deepest_of_pairs xs)
+pub deepest-placed : (p : TermValue × TermValue) (xs : List (TermValue × TermValue)) → deepest_of_pairs (placed p xs) ≡ max (max (depth p.0) (depth p.1)) (deepest_of_pairs xs)
 deepest-placed p [] = refl
 deepest-placed p (x ∷ xs) = by (is_lt (order p.0 x.0)) refl (deepest-placed p xs) where
   by : (b : Bool) → is_lt (order p.0 x.0) ≡ b → deepest_of_pairs (placed p xs) ≡ max (max (depth p.0) (depth p.1)) (deepest_of_pairs xs)
       → deepest_of_pairs (placed p (x ∷ xs)) ≡ max (max (depth p.0) (depth p.1)) (deepest_of_pairs (x ∷ xs))
   by true e rest = ap deepest_of_pairs (placed_lt p x xs e)
   by false e rest = ap deepest_of_pairs (placed_ge p x xs e) ∙ omega arith
-
-pub deepest-by_key : (ps : List (TermValue × TermValue)) → deepest_of_pairs (by_key ps) ≡ deepest_of_pairs ps
-deepest-by_key [] = refl
-deepest-by_key (p ∷ ps) = deepest-placed p (by_key ps) ∙ ap (max (max (depth p.0) (depth p.1))) (deepest-by_key ps)
 
 -- ---- what building answers
 

@@ -1,12 +1,11 @@
 -- What a reader answers at the exit of a call that failed.
-use Rattle.std.proofs.Common.{◌≡◌, ℕ, ◌⊎◌, Result, Ok, Err, Option, Some, None, ap, subst, ◌∙◌, sym, inl, inr}
-use Rattle.std.specs.Prelude.{IfOk, IfErr}
-use Rattle.std.specs.Option.{MatchOption, ok_or}
+use Rattle.std.proofs.Common.{◌≡◌, ℕ, Bool, true, false, Result, Ok, Err, refl, ap, ◌∙◌, sym}
 use Rattle.std.specs.Result.{IsErrAnd}
 use Rattle.etf_codec.specs.declared.fault.EtfFault.{EtfFault}
-use Rattle.etf_codec.specs.declared.fault.EtfFault.TheVariants.{Memory}
-use Rattle.etf_codec.specs.Format.{Place, Format}
-use Rattle.etf_codec.specs.Reads.{Reads, ReadsWithin}
+use Rattle.etf_codec.specs.Format.{Place, Format, Reading, byte, followed, framed, judged, go_on}
+use Rattle.etf_codec.specs.Spelling.{tag_of}
+use Rattle.etf_codec.specs.Reads.{Reads, ReadsAs, behind_tag}
+use Rattle.etf_codec.proofs.Bytes.{go_on_ok, go_on_err}
 
 -- the fault of a part is that of the whole
 pub reads_fault : {A : Type 0} (F : Format A) (term : ℕ) (before behind : Place) (answer : Result A EtfFault) (fault : EtfFault)
@@ -14,54 +13,70 @@ pub reads_fault : {A : Type 0} (F : Format A) (term : ℕ) (before behind : Plac
 reads_fault F term before behind (Ok x) fault h e = absurd h
 reads_fault F term before behind (Err y) fault h e = e ∙ ap Err (sym h)
 
--- where two formats read the same
-pub reads_same : {A : Type 0} (F G : Format A) (term : ℕ) (before behind : Place) (answer : Result A EtfFault)
-    → G.read term before ≡ F.read term before → Reads F term before behind answer → Reads G term before behind answer
-reads_same F G term before behind (Ok x) e h = e ∙ h
-reads_same F G term before behind (Err fault) e h = e ∙ h
+-- what is read behind a value
+pub reads_behind : {A B : Type 0} (F : Format A) (G : A → Format B) (term : ℕ) (before between behind : Place) (x : A) (answer : Result B EtfFault)
+    → F.read term before ≡ Ok (x, between) → Reads (G x) term between behind answer → Reads (followed F G) term before behind answer
+reads_behind F G term before between behind x (Ok y) e h = go_on_ok _ _ _ _ e ∙ h
+reads_behind F G term before between behind x (Err fault) e h = go_on_ok _ _ _ _ e ∙ h
 
--- what an option says where it was made a result
-pub ok_or_none : {A E : Type 0} (o : Option A) (d e : E) (P : Type 0) (Q : A → Type 0) → MatchOption o P Q → ok_or o d ≡ Err e → P × (e ≡ d)
-ok_or_none None d e P Q h w = (h, let same : d ≡ e = cc in sym same)
-ok_or_none (Some x) d e P Q h w = cc
+-- a fault of the first is that of both
+pub reads_first_fault : {A B : Type 0} (F : Format A) (G : A → Format B) (term : ℕ) (before behind : Place) (answer : Result B EtfFault) (fault : EtfFault)
+    → IsErrAnd answer (λ y. y ≡ fault) → F.read term before ≡ Err fault → Reads (followed F G) term before behind answer
+reads_first_fault F G term before behind answer fault h e = reads_fault (followed F G) term before behind answer fault h (go_on_err _ _ _ e)
 
-pub ok_or_some : {A E : Type 0} (o : Option A) (d : E) (y : A) (P : Type 0) (Q : A → Type 0) → MatchOption o P Q → ok_or o d ≡ Ok y → Q y
-ok_or_some None d y P Q h w = cc
-ok_or_some (Some x) d y P Q h w = let same : x ≡ y = cc in subst Q same h
+-- an answer beside an equal reading
+pub reads_same : {A : Type 0} (r s : Reading A) (behind : Place) (answer : Result A EtfFault) → r ≡ s → ReadsAs s behind answer → ReadsAs r behind answer
+reads_same r s behind (Ok x) e h = e ∙ h
+reads_same r s behind (Err fault) e h = e ∙ h
 
--- the same where memory may be wanting
-pub within_fault : {A : Type 0} (F : Format A) (term : ℕ) (before behind : Place) (answer : Result A EtfFault) (fault : EtfFault)
-    → IsErrAnd answer (λ y. y ≡ fault) → F.read term before ≡ Err fault → ReadsWithin F term before behind answer
-within_fault F term before behind (Ok x) fault h e = absurd h
-within_fault F term before behind (Err y) fault h e = inr (e ∙ ap Err (sym h))
+-- ---- behind a tag
 
--- what was built of what stands there
-pub within_made : {A : Type 0} (F : Format A) (term : ℕ) (before behind : Place) (answer : Result A EtfFault) (value : A)
-    → IfOk answer (λ x. x ≡ value) → IfErr answer (λ fault. fault ≡ Memory) → F.read term before ≡ Ok (value, behind) → ReadsWithin F term before behind answer
-within_made F term before behind (Ok x) value ok err e = e ∙ ap (λ y. Ok (y, behind)) (sym ok)
-within_made F term before behind (Err fault) value ok err e = inl err
+-- a term whose tag is taken, and one whose tag is refused
+pub reads_tagged : {A : Type 0} (test : ℕ → Bool) (refuse : ℕ → ℕ → EtfFault) (G : ℕ → Format A) (term : ℕ) (before between behind : Place) (tag : ℕ) (answer : Result A EtfFault)
+    → byte.read term before ≡ Ok (tag, between) → test tag ≡ true → Reads (G tag) term between behind answer
+    → Reads (followed (tag_of test refuse) G) term before behind answer
+reads_tagged test refuse G term before between behind tag answer e t h =
+    reads_behind (tag_of test refuse) G term before between behind tag answer
+    (go_on_ok _ _ _ _ e ∙ ap (λ b. judged b (refuse term tag) tag between) t) h
 
-pub within_reads : {A : Type 0} (F G : Format A) (term : ℕ) (before behind : Place) (answer : Result A EtfFault)
-    → G.read term before ≡ F.read term before → Reads F term before behind answer → ReadsWithin G term before behind answer
-within_reads F G term before behind (Ok x) e h = e ∙ h
-within_reads F G term before behind (Err fault) e h = inr (e ∙ h)
+pub tag_refused : {A : Type 0} (test : ℕ → Bool) (refuse : ℕ → ℕ → EtfFault) (G : ℕ → Format A) (term : ℕ) (before between : Place) (tag : ℕ)
+    → byte.read term before ≡ Ok (tag, between) → test tag ≡ false → (followed (tag_of test refuse) G).read term before ≡ Err (refuse term tag)
+tag_refused test refuse G term before between tag e t =
+    go_on_err _ _ _ (go_on_ok _ _ _ _ e ∙ ap (λ b. judged b (refuse term tag) tag between) t)
 
-pub within_same : {A : Type 0} (F G : Format A) (term : ℕ) (before behind : Place) (answer : Result A EtfFault)
-    → G.read term before ≡ F.read term before → ReadsWithin F term before behind answer → ReadsWithin G term before behind answer
-within_same F G term before behind (Ok x) e h = e ∙ h
-within_same F G term before behind (Err fault) e (inl memory) = inl memory
-within_same F G term before behind (Err fault) e (inr h) = inr (e ∙ h)
+pub no_tag : {A : Type 0} (test : ℕ → Bool) (refuse : ℕ → ℕ → EtfFault) (G : ℕ → Format A) (term : ℕ) (before : Place) (fault : EtfFault)
+    → byte.read term before ≡ Err fault → (followed (tag_of test refuse) G).read term before ≡ Err fault
+no_tag test refuse G term before fault e = go_on_err _ _ _ (go_on_err _ _ _ e)
 
--- where another format reads the same from another place
-pub within_on : {A : Type 0} (F G : Format A) (t u : ℕ) (p q behind : Place) (answer : Result A EtfFault)
-    → G.read u q ≡ F.read t p → ReadsWithin F t p behind answer → ReadsWithin G u q behind answer
-within_on F G t u p q behind (Ok x) e h = e ∙ h
-within_on F G t u p q behind (Err fault) e (inl memory) = inl memory
-within_on F G t u p q behind (Err fault) e (inr h) = inr (e ∙ h)
+-- a term of its own
+pub reads_framed : {A : Type 0} (F : Format A) (term : ℕ) (before behind : Place) (answer : Result A EtfFault)
+    → Reads F before.offset before behind answer → Reads (framed F) term before behind answer
+reads_framed F term before behind (Ok x) h = h
+reads_framed F term before behind (Err fault) h = h
 
--- the fault of a part that itself may want memory
-pub within_rest : {A : Type 0} (F : Format A) (term : ℕ) (before behind : Place) (answer : Result A EtfFault) (fault : EtfFault)
-    → IsErrAnd answer (λ y. y ≡ fault) → (fault ≡ Memory) ⊎ (F.read term before ≡ Err fault) → ReadsWithin F term before behind answer
-within_rest F term before behind (Ok x) fault h e = absurd h
-within_rest F term before behind (Err y) fault h (inl memory) = inl (h ∙ memory)
-within_rest F term before behind (Err y) fault h (inr e) = inr (e ∙ ap Err (sym h))
+-- what is read at a place, told by its reading
+pub reads_as : {A : Type 0} (F : Format A) (term : ℕ) (before behind : Place) (answer : Result A EtfFault)
+    → ReadsAs (F.read term before) behind answer → Reads F term before behind answer
+reads_as F term before behind (Ok x) h = h
+reads_as F term before behind (Err fault) h = h
+
+pub as_reads : {A : Type 0} (F : Format A) (term : ℕ) (before behind : Place) (answer : Result A EtfFault)
+    → Reads F term before behind answer → ReadsAs (F.read term before) behind answer
+as_reads F term before behind (Ok x) h = h
+as_reads F term before behind (Err fault) h = h
+
+-- a term is what is read behind its tag
+go_on_judged : {A : Type 0} (G : ℕ → Format A) (term tag : ℕ) (between : Place) (fault : EtfFault) (known : Bool)
+    → go_on (judged known fault tag between) (λ x behind. (G x).read term behind) ≡ behind_tag known fault (G tag) term between
+go_on_judged G term tag between fault true = refl
+go_on_judged G term tag between fault false = refl
+
+pub reads_behind_tag : {A : Type 0} (test : ℕ → Bool) (refuse : ℕ → ℕ → EtfFault) (G : ℕ → Format A) (term : ℕ) (before between behind : Place) (tag : ℕ) (answer : Result A EtfFault)
+    → byte.read before.offset before ≡ Ok (tag, between) → ReadsAs (behind_tag (test tag) (refuse before.offset tag) (G tag) before.offset between) behind answer
+    → Reads (framed (followed (tag_of test refuse) G)) term before behind answer
+reads_behind_tag test refuse G term before between behind tag answer e h =
+    reads_framed (followed (tag_of test refuse) G) term before behind answer
+    (reads_as (followed (tag_of test refuse) G) before.offset before behind answer
+    (reads_same _ _ behind answer
+    (ap (λ r. go_on (go_on r (λ x b. judged (test x) (refuse before.offset x) x b)) (λ x b. (G x).read before.offset b)) e
+    ∙ go_on_judged G before.offset tag between (refuse before.offset tag) (test tag)) h))

@@ -1,8 +1,9 @@
 -- A format that is put together is sharp where its parts are.
-use Rattle.std.proofs.Common.{◌≡◌, ◌≢◌, ℕ, zero, suc, Bool, true, false, List, [], ◌∷◌, ◌++◌, ◌⊎◌, inl, inr, refl, ap, ◌∙◌, sym, append_assoc, append-nil, arith}
+use Rattle.std.proofs.Common.{◌≡◌, ℕ, Bool, List, [], ◌∷◌, ◌++◌, ◌⊎◌, inl, inr, refl, ap, ◌∙◌, sym, append_assoc, append-nil}
 use Rattle.etf_codec.specs.declared.fault.EtfFault.{EtfFault}
-use Rattle.etf_codec.specs.Format.{Format, byte, give, followed, tested, framed, changed, either, times}
+use Rattle.etf_codec.specs.Format.{Format, byte, give, followed, tested, framed}
 use Rattle.etf_codec.specs.Sharp.{OneMore, IsSharp, HasBytes}
+use Rattle.etf_codec.proofs.Kept.{IsKept}
 
 pub byte-sharp : IsSharp byte
 byte-sharp = record {
@@ -49,9 +50,6 @@ module _ {A B : Type 0} (F : Format A) (G : A → Format B) (f : IsSharp F) (g :
     whole_sharp = λ y bytes j. ends_second j.value j.front j.rest bytes j.first j.whole ((g j.value j.front j.first).whole_sharp y j.rest j.second);
   }
 
-pub changed-sharp : {A B : Type 0} (F : Format A) (f : A → B) → IsSharp F → IsSharp (changed F f)
-changed-sharp F f s = followed-sharp F (λ x. give (f x)) s (λ x front w. give-sharp (f x))
-
 -- ---- the others
 
 not_empty : {P : List ℕ → Type 0} (bytes : List ℕ) → (bytes ≡ [] → ⊥) → (bytes ≡ []) ⊎ OneMore P bytes → OneMore P bytes
@@ -75,31 +73,11 @@ framed-sharp F f = record {
   whole_sharp = λ x bytes h. f.whole_sharp x bytes h;
 }
 
-pub either-sharp : {A : Type 0} (b : Bool) (F G : Format A) → IsSharp F → (b ≡ false → IsSharp G) → IsSharp (either b F G)
-either-sharp true F G f g = f
-either-sharp false F G f g = g refl
-
-times_all-sharp : {A : Type 0} (n : ℕ) (F : Format A) → IsSharp F → IsSharp (times n F)
-times_all-sharp zero F f = give-sharp []
-times_all-sharp (suc n) F f =
-    followed-sharp F (λ x. changed (times n F) (λ xs. x ∷ xs)) f (λ x front w. changed-sharp (times n F) (λ xs. x ∷ xs) (times_all-sharp n F f))
-
--- where it is no times nothing is asked of the format
-pub times-sharp : {A : Type 0} (n : ℕ) (F : Format A) → (n ≢ 0 → IsSharp F) → IsSharp (times n F)
-times-sharp zero F f = give-sharp []
-times-sharp (suc n) F f = times_all-sharp (suc n) F (f (omega arith))
-
--- ---- what has bytes
-
-pub byte_some : HasBytes byte
-byte_some x bytes h n = let clash : ◌≡◌ {A = List ℕ} [] (x ∷ []) = sym n ∙ h in cc
-
-front_empty : (a b : List ℕ) → a ++ b ≡ [] → a ≡ []
-front_empty [] b e = refl
-front_empty (x ∷ a) b e = cc
-
-pub followed_some : {A B : Type 0} (F : Format A) (G : A → Format B) → HasBytes F → HasBytes (followed F G)
-followed_some F G some y bytes j n = some j.value j.front j.first (front_empty j.front j.rest (sym j.whole ∙ n))
-
-pub tested_some : {A : Type 0} (F : Format A) (test : A → Bool) (fault : ℕ → A → EtfFault) → HasBytes F → HasBytes (tested F test fault)
-tested_some F test fault some x bytes h n = some x bytes h.0 n
+pub sharp-kept : IsKept (λ A F. IsSharp F)
+sharp-kept = record {
+  of_byte = byte-sharp;
+  of_give = give-sharp;
+  of_followed = followed-sharp;
+  of_tested = λ F test fault tells some f. tested-sharp F test fault f some;
+  of_framed = framed-sharp;
+}

@@ -7,7 +7,7 @@ use Rattle.dets_term.specs.IsTerm.{built}
 use Rattle.dets_term.specs.Parts.{deepest, parts_depth-chain}
 use Rattle.etf_codec.specs.declared.fault.EtfFault.{EtfFault}
 use Rattle.etf_codec.specs.Format.{Place, Reading, byte, go_on, changed, either}
-use Rattle.etf_codec.specs.Reads.{part_of, tail_of, body_of}
+use Rattle.etf_codec.specs.ReadTerms.{part_of, tail_of, body_of}
 use Rattle.etf_codec.specs.Spelling.{count, list_of, no_tail, term_with}
 use Rattle.etf_codec.proofs.Bytes.{go_on_ok, go_on_err, test_passes, test_fails}
 use Rattle.etf_codec.proofs.Built.{built_within}
@@ -96,15 +96,3 @@ depth-tuple_of ts levels h = omega (arith, h, parts_depth-chain ts)
 
 pub built_tuple : (ts : List TermValue) (levels : ℕ) → levels < 256 → length ts < 2 ^ 32 → deepest ts ≤ levels → built (length ts) (tuple (chain ts nil)) ≡ Ok (tuple (chain ts nil))
 built_tuple ts levels room few h = built_within (length ts) (tuple (chain ts nil)) few (omega (arith, depth-tuple_of ts levels h))
-
--- ---- values that are changed twice
-
-pub changed_ok : {A B C : Type 0} (r : Reading A) (f : A → B) (g : B → C) (y : B) (next : Place) → go_on r (λ x place. Ok (f x, place)) ≡ Ok (y, next) → go_on r (λ x place. Ok (g (f x), place)) ≡ Ok (g y, next)
-changed_ok {B} (Ok x) f g y next e =
-    let P : B × Place → B × Place → Type 0 = λ p q. p ≡ q in
-    let pair : P (f x.0, x.1) (y, next) = cc in ap (λ p. Ok (g p.0, p.1)) pair
-changed_ok (Err fault) f g y next e = cc
-
-pub changed_err : {A B C : Type 0} (r : Reading A) (f : A → B) (g : B → C) (fault : EtfFault) → go_on r (λ x place. Ok (f x, place)) ≡ Err fault → go_on r (λ x place. Ok (g (f x), place)) ≡ Err fault
-changed_err (Ok x) f g fault e = cc
-changed_err (Err h) f g fault e = let same : h ≡ fault = cc in ap Err same

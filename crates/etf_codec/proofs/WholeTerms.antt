@@ -1,20 +1,19 @@
 -- The canonical spelling of tuples, lists and maps spells them where that of their parts does.
-use Rattle.std.proofs.Common.{◌≡◌, ℕ, zero, suc, ◌^◌, ◌<◌, ◌≤◌, true, false, not, ◌==◌, List, [], ◌∷◌, ◌++◌, length, map, ⊎_elim, refl, sym, ap, ◌∙◌, subst, arith, append_assoc}
+use Rattle.std.proofs.Common.{◌≡◌, ℕ, zero, suc, ◌^◌, ◌<◌, ◌≤◌, true, false, not, ◌==◌, cond, List, [], ◌∷◌, ◌++◌, length, map, ⊎_elim, refl, sym, ap, ◌∙◌, subst, arith, append_assoc}
 use Rattle.std.specs.List.{flat_map, list_any, list_all, AllByRecursion}
 use Rattle.std.specs.Int.{bytes_high_first}
 use Rattle.std.specs.declared.cmp.Ordering.TheVariants.{Less}
-use Rattle.std.specs.Ordering.{is_eq, ordering_reverse}
+use Rattle.std.specs.Ordering.{is_eq, is_lt, ordering_reverse}
 use Rattle.std.proofs.lemmas.Bool.{cond-true, cond-false, le-leb, lt-leb, ne_eqb, and_parts, or_from, not_from_false, cases_lt}
 use Rattle.std.proofs.lemmas.List.{append-nil, length-map, map-append}
-use Rattle.std.proofs.lemmas.List.Sorted.{IsPermutation-refl}
 use Rattle.std.specs.Prelude.{pos, negsuc}
 use Rattle.dets_term.specs.TermValue.{TermValue, integer, atom, tuple, mapping, nil, cons, bits, chain, map_of, is_list}
 use Rattle.dets_term.specs.Order.{order, is_same}
 use Rattle.dets_term.specs.OrderCode.{order_total}
 use Rattle.dets_term.specs.IsTerm.{AreAscending}
-use Rattle.dets_term.specs.Pairs.{keys, by_key}
+use Rattle.dets_term.specs.Pairs.{keys, placed}
 use Rattle.dets_term.specs.Parts.{deepest, deepest_of_pairs}
-use Rattle.dets_term.proofs.PairSorts.{all_above, ascending_is_by_key}
+use Rattle.dets_term.proofs.PairSorts.{all_above}
 use Rattle.etf_codec.specs.declared.fault.EtfFault.TheVariants.{RepeatedKey}
 use Rattle.etf_codec.specs.Format.{Format, byte, followed, tested, framed, changed, times, either}
 use Rattle.etf_codec.specs.Layout.{integers}
@@ -64,6 +63,14 @@ none_same : (ks : List TermValue) (k : TermValue) (rest : List TermValue) → Ar
 none_same [] k rest up = refl
 none_same (l ∷ ks) k rest up =
     or_from (is_same k l) (list_any (is_same k) ks) (apart k l (above k l ks rest (all_above l (ks ++ k ∷ rest) up.0 up.1))) (none_same ks k rest up.1)
+
+-- a pair with a greater key goes last
+last_placed : (seen : List (TermValue × TermValue)) (p : TermValue × TermValue) (rest : List TermValue) → AreAscending (keys seen ++ p.0 ∷ rest) → placed p seen ≡ seen ++ p ∷ []
+last_placed [] p rest up = refl
+last_placed (q ∷ seen) p rest up =
+    let less = above p.0 q.0 (keys seen) rest (all_above q.0 (keys seen ++ p.0 ∷ rest) up.0 up.1) in
+    ap (λ b. cond b (p ∷ q ∷ seen) (q ∷ placed p seen)) (ap is_lt (order_total.antisymm p.0 q.0 ∙ ap ordering_reverse less))
+    ∙ ap (λ ps. q ∷ ps) (last_placed seen p rest up.1)
 
 module _ (part tail : Format TermValue) (levels : ℕ) where
   -- the canonical spelling of a part spells it
@@ -144,29 +151,30 @@ module _ (part tail : Format TermValue) (levels : ℕ) where
       → (pairs_after part seen (length ps)).Whole (seen ++ ps) (flat_map spelled_pair ps)
   pairs_whole seen [] up all = (append-nil seen, refl)
   pairs_whole seen (p ∷ ps) up all =
-      let new = none_same (keys seen) p.0 (keys ps) (subst AreAscending (map-append (λ p. p.0) seen (p ∷ ps)) up) in
+      let ascending = subst AreAscending (map-append (λ p. p.0) seen (p ∷ ps)) up in
+      let new = none_same (keys seen) p.0 (keys ps) ascending in
+      let last = last_placed seen p (keys ps) ascending in
       let next = append_assoc seen (p ∷ []) ps in
       let rest = pairs_whole (seen ++ p ∷ []) ps (subst (λ qs. AreAscending (keys qs)) (sym next) up) all.1 in
       whole_at (pairs_after part seen (suc (length ps))) (seen ++ p ∷ ps) (seen ++ p ∷ ps) _ _ refl (sym (append_assoc (canonical p.0) (canonical p.1) (flat_map spelled_pair ps)))
       (followed_whole (framed (tested part (λ k. not (list_any (is_same k) (keys seen))) (λ term k. RepeatedKey term)))
-      (λ k. followed part (λ v. pairs_after part (seen ++ (k, v) ∷ []) (length ps))) p.0 (seen ++ p ∷ ps) (canonical p.0) (canonical p.1 ++ flat_map spelled_pair ps)
+      (λ k. followed part (λ v. pairs_after part (placed (k, v) seen) (length ps))) p.0 (seen ++ p ∷ ps) (canonical p.0) (canonical p.1 ++ flat_map spelled_pair ps)
       (all.0.0, not_from_false _ new)
-      (followed_whole part (λ v. pairs_after part (seen ++ (p.0, v) ∷ []) (length ps)) p.1 (seen ++ p ∷ ps) (canonical p.1) (flat_map spelled_pair ps) all.0.1
-      (whole_at (pairs_after part (seen ++ p ∷ []) (length ps)) ((seen ++ p ∷ []) ++ ps) (seen ++ p ∷ ps) _ _ next refl rest)))
+      (followed_whole part (λ v. pairs_after part (placed (p.0, v) seen) (length ps)) p.1 (seen ++ p ∷ ps) (canonical p.1) (flat_map spelled_pair ps) all.0.1
+      (whole_at (pairs_after part (placed p seen) (length ps)) ((seen ++ p ∷ []) ++ ps) (seen ++ p ∷ ps) _ _ next refl
+      (subst (λ qs. (pairs_after part qs (length ps)).Whole ((seen ++ p ∷ []) ++ ps) (flat_map spelled_pair ps)) (sym last) rest))))
 
   pub map_tagged : (ps : List (TermValue × TermValue)) → length ps < 2 ^ 32 → MayCount (may_have_parts levels) (length ps) → AreAscending (keys ps) → AllByRecursion (λ p. IsPart p.0 × IsPart p.1) ps
       → Tagged part tail levels (map_of ps) (head 116 4 (length ps) ++ flat_map spelled_pair ps)
   map_tagged ps fits may up all =
       let n = length ps in
-      let sorted = (ascending_is_by_key ps ps (IsPermutation-refl ps) up).1 in
       record {
         tag = 116;
         rest = bytes_high_first 4 n ++ flat_map spelled_pair ps;
         same = refl;
         known = refl;
         ends = λ e. refl;
-        inside = followed_whole (count levels 4) (λ n. changed (pairs_after part [] n) (λ pairs. map_of (by_key pairs))) n (map_of ps) (bytes_high_first 4 n) (flat_map spelled_pair ps)
+        inside = followed_whole (count levels 4) (λ n. changed (pairs_after part [] n) map_of) n (map_of ps) (bytes_high_first 4 n) (flat_map spelled_pair ps)
             (count_whole (may_have_parts levels) 4 n may (value-4 n fits))
-            (whole_at (changed (pairs_after part [] n) (λ pairs. map_of (by_key pairs))) (map_of (by_key ps)) (map_of ps) _ _ (ap map_of sorted) refl
-            (changed_whole (pairs_after part [] n) (λ pairs. map_of (by_key pairs)) ps (flat_map spelled_pair ps) (pairs_whole [] ps up all)));
+            (changed_whole (pairs_after part [] n) map_of ps (flat_map spelled_pair ps) (pairs_whole [] ps up all));
       }

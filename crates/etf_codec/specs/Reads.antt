@@ -1,15 +1,17 @@
 -- What a reader answers, told by its format. This project's own.
-use Rattle.std.specs.Prelude.{◌≡◌, ℕ, Bool, true, false, List, [], Result, Ok, Err, ◌⊎◌, drop}
-use Rattle.dets_term.specs.TermValue.{TermValue, atom, parts_depth, elements}
+use Rattle.std.specs.Prelude.{◌≡◌, ℕ, Bool, cond, List, Result, Ok, Err, ◌⊎◌, drop}
 use Rattle.etf_codec.specs.declared.fault.EtfFault.{EtfFault}
-use Rattle.etf_codec.specs.declared.fault.EtfFault.TheVariants.{Memory, BadAtom, Unsupported}
-use Rattle.etf_codec.specs.Format.{Format, Place}
-use Rattle.etf_codec.specs.Layout.{is_name, is_known, begins_tail, characters}
-use Rattle.etf_codec.specs.Spelling.{body, term_with}
+use Rattle.etf_codec.specs.declared.fault.EtfFault.TheVariants.{Memory}
+use Rattle.etf_codec.specs.Format.{Format, Place, Reading}
 
 -- the place in some bytes behind so many of them
 abbrev pub place_at : List ℕ → ℕ → Place
 place_at bytes at = record { offset = at; left = drop at bytes }
+
+-- an answer beside that of reading: the value and the place behind it, or the fault
+abbrev pub ReadsAs : {A : Type 0} → Reading A → Place → Result A EtfFault → Type 0
+ReadsAs reading behind (Ok x) = reading ≡ Ok (x, behind)
+ReadsAs reading behind (Err fault) = reading ≡ Err fault
 
 -- the value that stands at a place and the place behind it, or the fault there
 abbrev pub Reads : {A : Type 0} → Format A → ℕ → Place → Place → Result A EtfFault → Type 0
@@ -21,22 +23,6 @@ abbrev pub ReadsWithin : {A : Type 0} → Format A → ℕ → Place → Place �
 ReadsWithin F term before behind (Ok x) = F.read term before ≡ Ok (x, behind)
 ReadsWithin F term before behind (Err fault) = (fault ≡ Memory) ⊎ (F.read term before ≡ Err fault)
 
--- a term without parts
-abbrev pub IsLeaf : TermValue → Type 0
-IsLeaf t = (parts_depth t ≡ 0) × (elements t ≡ [])
-
--- what bytes are as an atom's text, in UTF-8 or else in Latin-1, or want of memory
-abbrev pub IsAtomOf : Bool → List ℕ → ℕ → Result TermValue EtfFault → Type 0
-IsAtomOf utf8 bytes term (Ok t) = (is_name utf8 bytes ≡ true) × (t ≡ atom (characters utf8 bytes))
-IsAtomOf utf8 bytes term (Err fault) = (fault ≡ Memory) ⊎ ((is_name utf8 bytes ≡ false) × (fault ≡ BadAtom term))
-
--- a part of a term, and the tail of a list, below which so many levels are left
-abbrev pub part_of : ℕ → Format TermValue
-part_of levels = term_with is_known (λ term x. Unsupported term x) levels
-
-abbrev pub tail_of : ℕ → Format TermValue
-tail_of levels = term_with begins_tail (λ term x. Unsupported term x) levels
-
--- what follows a tag, below which so many levels are left
-unfoldable pub body_of : ℕ → ℕ → Format TermValue
-body_of levels tag = body (part_of levels) (tail_of levels) levels tag
+-- what reading answers behind a tag that is known, or else the fault
+abbrev pub behind_tag : {A : Type 0} → Bool → EtfFault → Format A → ℕ → Place → Reading A
+behind_tag known fault F term place = cond known (F.read term place) (Err fault)

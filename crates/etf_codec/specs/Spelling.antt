@@ -1,9 +1,9 @@
 -- The spelling of terms as bytes: the External Term Format chapter of the ERTS User's Guide in this project's profile.
-use Rattle.std.specs.Prelude.{ℕ, zero, suc, ◌+◌, ◌*◌, pos, Bool, true, false, cond, not, ◌==◌, nat_le, List, [], ◌∷◌, ◌++◌}
+use Rattle.std.specs.Prelude.{ℕ, zero, suc, ◌+◌, ◌*◌, pos, Bool, true, false, cond, not, ◌==◌, nat_le, List, []}
 use Rattle.std.specs.List.{list_any}
 use Rattle.dets_term.specs.TermValue.{TermValue, integer, atom, tuple, nil, chain, map_of, bits}
 use Rattle.dets_term.specs.Order.{is_same}
-use Rattle.dets_term.specs.Pairs.{keys, by_key}
+use Rattle.dets_term.specs.Pairs.{keys, placed}
 use Rattle.dets_term.specs.BitString.{bits_of}
 use Rattle.etf_codec.specs.declared.fault.EtfFault.{EtfFault}
 use Rattle.etf_codec.specs.declared.fault.EtfFault.TheVariants.{NotVersion, Unsupported, Compressed, IntegerRange, BadAtom, BadBits, RepeatedKey, Depth}
@@ -80,16 +80,16 @@ abbrev pub list_of : Format TermValue → Format TermValue → ℕ → Format Te
 list_of part tail levels =
     followed (count levels 4) (λ n. followed (times n part) (λ ts. changed (either (n == 0) no_tail tail) (λ end. chain ts end)))
 
--- so many more pairs of a map, behind these; a key that stands among theirs is refused
+-- So many more pairs of a map, each put among these by its key. A key that stands there already is refused.
 abbrev pub pairs_after : Format TermValue → List (TermValue × TermValue) → ℕ → Format (List (TermValue × TermValue))
 pairs_after part pairs zero = give pairs
 pairs_after part pairs (suc n) =
     followed (framed (tested part (λ k. not (list_any (is_same k) (keys pairs))) (λ term k. RepeatedKey term)))
-    (λ k. followed part (λ v. pairs_after part (pairs ++ (k, v) ∷ []) n))
+    (λ k. followed part (λ v. pairs_after part (placed (k, v) pairs) n))
 
 -- the pairs in any order
 abbrev pub map_format : Format TermValue → ℕ → Format TermValue
-map_format part levels = followed (count levels 4) (λ n. changed (pairs_after part [] n) (λ pairs. map_of (by_key pairs)))
+map_format part levels = followed (count levels 4) (λ n. changed (pairs_after part [] n) map_of)
 
 -- what follows a tag, one case for each; below the term's level so many levels are left
 abbrev pub body : Format TermValue → Format TermValue → ℕ → ℕ → Format TermValue
@@ -121,6 +121,13 @@ term_with test fault zero = refused (λ here. Depth here)
 term_with test fault (suc levels) =
     framed (followed (tag_of test fault)
     (λ tag. body (term_with is_known (λ term x. Unsupported term x) levels) (term_with begins_tail (λ term x. Unsupported term x) levels) levels tag))
+
+-- a term inside another one, and the tail of a list with elements
+abbrev pub part_at : ℕ → Format TermValue
+part_at levels = term_with is_known (λ term x. Unsupported term x) levels
+
+abbrev pub tail_at : ℕ → Format TermValue
+tail_at levels = term_with begins_tail (λ term x. Unsupported term x) levels
 
 -- the first term, behind 131: 80 begins a compressed one
 abbrev pub outermost : Format TermValue

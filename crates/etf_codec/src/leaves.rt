@@ -1,7 +1,8 @@
 //! Terms without parts.
 ghost use Rattle.std.specs.Prelude.{◌≡◌, ℕ, ◌≢◌, IfOk, IfErr};
 ghost use Rattle.dets_term.specs.TermValue.{nil};
-ghost use Rattle.etf_codec.specs.Reads.{ReadsWithin, IsLeaf, body_of};
+ghost use Rattle.etf_codec.specs.Reads.{ReadsWithin};
+ghost use Rattle.etf_codec.specs.ReadTerms.{IsLeaf, body_of};
 ghost use Rattle.etf_codec.specs.Spelling.{no_tail};
 
 use crate::EtfFault;

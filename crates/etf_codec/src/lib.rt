@@ -6,6 +6,7 @@
 pub use decoding::decode;
 pub use encoding::encode;
 pub use fault::EtfFault;
+pub use skipping::skip;
 pub use std::alloc::AllocError as Memory;
 
 mod atoms;
@@ -22,5 +23,7 @@ pub mod laws;
 mod leaves;
 mod numbers;
 pub mod rows;
+mod skipping;
+pub mod skipping_laws;
 mod strings;
 mod terms;

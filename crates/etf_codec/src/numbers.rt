@@ -2,7 +2,8 @@ ghost use Rattle.std.specs.Prelude.{◌≡◌, ℕ, pos, ◌≤◌, IfOk};
 ghost use Rattle.dets_term.specs.TermValue.{integer};
 ghost use Rattle.etf_codec.specs.Format.{byte, changed};
 ghost use Rattle.etf_codec.specs.Layout.{signed, signed_32, limit};
-ghost use Rattle.etf_codec.specs.Reads.{Reads, IsLeaf};
+ghost use Rattle.etf_codec.specs.Reads.{Reads};
+ghost use Rattle.etf_codec.specs.ReadTerms.{IsLeaf};
 ghost use Rattle.etf_codec.specs.Spelling.{number, big_integer};
 
 use crate::EtfFault;

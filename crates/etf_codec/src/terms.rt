@@ -3,9 +3,10 @@ ghost use Rattle.std.specs.Prelude.{◌≡◌, ℕ, suc, ◌≤◌, ◌<◌, ◌
 ghost use Rattle.dets_term.specs.Pairs.{keys, repeats, by_key};
 ghost use Rattle.dets_term.specs.Parts.{deepest, deepest_of_pairs};
 ghost use Rattle.dets_term.specs.TermValue.{depth, elements};
-ghost use Rattle.etf_codec.specs.Format.{times, changed};
+ghost use Rattle.etf_codec.specs.Format.{times};
 ghost use Rattle.etf_codec.specs.Layout.{is_known, begins_tail};
-ghost use Rattle.etf_codec.specs.Reads.{ReadsWithin, part_of, tail_of, body_of};
+ghost use Rattle.etf_codec.specs.Reads.{ReadsWithin};
+ghost use Rattle.etf_codec.specs.ReadTerms.{part_of, tail_of, body_of};
 ghost use Rattle.etf_codec.specs.Spelling.{tuple_of, list_of, map_format, pairs_after};
 
 use crate::EtfFault;
@@ -169,7 +170,7 @@ fn read_pairs(
     levels: u32,
 ) -> Result<PairList, EtfFault>
     requires { levels < 256 }
-    ensures reads { (term : ℕ) → ReadsWithin (changed (pairs_after (part_of levels) [] count) by_key) term cursor.old cursor.new result }
+    ensures reads { (term : ℕ) → ReadsWithin (pairs_after (part_of levels) [] count) term cursor.old cursor.new result }
     ensures apart { IfOk result (λ pairs. repeats (keys pairs) ≡ false) }
     ensures in_order { IfOk result (λ pairs. by_key pairs ≡ pairs) }
     ensures len { IfOk result (λ pairs. length pairs ≡ count) }

@@ -1,6 +1,6 @@
 use Rattle.etf_codec.specs.Spelling.{binary}
 use Rattle.etf_codec.proofs.Bytes.{go_on_ok, go_on_err}
-use Rattle.etf_codec.proofs.Reading.{within_fault, within_made}
+use Rattle.etf_codec.proofs.Within.{within_fault, within_made}
 use Rattle.etf_codec.proofs.bits.read_binary.Goals as goal
 
 pub returns-in_err-bytes-clause-reads : goal.returns-in_err-bytes-clause-reads

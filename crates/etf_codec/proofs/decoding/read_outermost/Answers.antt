@@ -1,9 +1,9 @@
 use Rattle.std.proofs.Common.{◌∙◌, ◌==◌, cond, inr, arith, sym, ap, Err}
 use Rattle.etf_codec.specs.declared.fault.EtfFault.TheVariants.{Unsupported, Compressed}
 use Rattle.etf_codec.specs.Layout.{is_known}
-use Rattle.etf_codec.specs.Reads.{body_of}
+use Rattle.etf_codec.specs.ReadTerms.{body_of}
 use Rattle.etf_codec.specs.Spelling.{outermost}
-use Rattle.etf_codec.proofs.Reading.{within_fault, within_on}
+use Rattle.etf_codec.proofs.Within.{within_fault, within_on}
 use Rattle.etf_codec.proofs.TermSteps.{term_step, term_refused, term_fails}
 use Rattle.etf_codec.proofs.decoding.read_outermost.Goals as goal
 

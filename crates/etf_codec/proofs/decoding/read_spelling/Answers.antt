@@ -3,7 +3,7 @@ use Rattle.std.proofs.lemmas.Bool.Decides.{nat_tests}
 use Rattle.etf_codec.specs.declared.fault.EtfFault.TheVariants.{NotVersion}
 use Rattle.etf_codec.specs.Spelling.{spelling, outermost}
 use Rattle.etf_codec.proofs.Bytes.{go_on_ok, go_on_err, test_passes, test_fails}
-use Rattle.etf_codec.proofs.Reading.{within_fault, within_on}
+use Rattle.etf_codec.proofs.Within.{within_fault, within_on}
 use Rattle.etf_codec.proofs.decoding.read_spelling.Goals as goal
 
 pub returns-in_err-version : goal.returns-in_err-version

@@ -1,8 +1,10 @@
-use Rattle.etf_codec.proofs.Fronts.{moved_break, break_moved}
+use Rattle.etf_codec.specs.Spelling.{spelling}
+use Rattle.etf_codec.proofs.SpellingExact.{spelling-exact, spelling-sharp, spelling-moving}
+use Rattle.etf_codec.proofs.Breaks.{break_moved}
 use Rattle.etf_codec.proofs.laws.breaks_move_with_the_offset_at_which_bytes_begin.Goals as goal
 
 pub returns-clause-kept : goal.returns-clause-kept
-returns-clause-kept c = moved_break
+returns-clause-kept c start n bytes fault b = spelling-moving.break_moves n start start bytes fault b
 
 pub returns-clause-no_others : goal.returns-clause-no_others
-returns-clause-no_others c = break_moved
+returns-clause-no_others c = break_moved spelling spelling-exact spelling-sharp spelling-moving

@@ -3,7 +3,7 @@ use Rattle.etf_codec.specs.Layout.{integers}
 use Rattle.etf_codec.proofs.Built.{IfOk-shallow, depth-integers_levels}
 use Rattle.etf_codec.specs.Spelling.{string}
 use Rattle.etf_codec.proofs.Bytes.{go_on_ok, go_on_err}
-use Rattle.etf_codec.proofs.Reading.{within_fault, within_made}
+use Rattle.etf_codec.proofs.Within.{within_fault, within_made}
 use Rattle.etf_codec.proofs.strings.read_string.Goals as goal
 
 pub returns-in_err-bytes-clause-reads : goal.returns-in_err-bytes-clause-reads

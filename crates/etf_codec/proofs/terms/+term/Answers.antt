@@ -4,18 +4,18 @@ use Rattle.dets_term.specs.TermValue.{TermValue, tuple, chain, nil, map_of}
 use Rattle.dets_term.specs.Pairs.{keys, repeats, by_key}
 use Rattle.dets_term.specs.Parts.{deepest, deepest_of_pairs, deepest-push}
 use Rattle.etf_codec.specs.declared.fault.EtfFault.TheVariants.{Unsupported, RepeatedKey}
-use Rattle.etf_codec.specs.Format.{times, changed}
+use Rattle.etf_codec.specs.Format.{times}
 use Rattle.etf_codec.specs.Layout.{is_known, begins_tail}
-use Rattle.etf_codec.specs.Reads.{part_of, tail_of, body_of}
+use Rattle.etf_codec.specs.ReadTerms.{part_of, tail_of, body_of}
 use Rattle.etf_codec.specs.Spelling.{tuple_of, list_of, map_format, no_tail, string, pairs_after}
 use Rattle.etf_codec.proofs.Bodies.{body-small_tuple, body-large_tuple, body-string, body-list, body-map}
 use Rattle.etf_codec.proofs.Built.{IfErr-ok, IfOk-made, IfOk-shallow}
 use Rattle.etf_codec.proofs.Bytes.{go_on_ok, go_on_err}
 use Rattle.etf_codec.proofs.Collecting.{behind, behind_more, behind_fails}
 use Rattle.etf_codec.proofs.PairOrder.{map_built_within, depth-map_of}
-use Rattle.etf_codec.proofs.PairsRead.{PairsSoFar, one_more, no_key, key_again, no_value, all_apart, all_in_order, all_counted, all_shallow}
-use Rattle.etf_codec.proofs.Reading.{within_fault, within_made, within_same, within_on, within_rest}
-use Rattle.etf_codec.proofs.TermSteps.{term_step, term_refused, term_fails, list_none, list_tail, depth-list_of, built_list, IfErr-either, IfOk-either, or_else, depth-tuple_of, built_tuple, changed_ok, changed_err}
+use Rattle.etf_codec.proofs.PairsRead.{PairsSoFar, one_more, no_key, key_again, no_value}
+use Rattle.etf_codec.proofs.Within.{within_fault, within_made, within_same, within_on, within_rest}
+use Rattle.etf_codec.proofs.TermSteps.{term_step, term_refused, term_fails, list_none, list_tail, depth-list_of, built_list, IfErr-either, IfOk-either, or_else, depth-tuple_of, built_tuple}
 use Rattle.etf_codec.proofs.terms.+term.Goals as goal
 
 pub read_body-returns-in-104-clause-reads : goal.read_body-returns-in-104-clause-reads
@@ -136,7 +136,7 @@ pub read_map-returns-in_err-pairs-clause-reads : goal.read_map-returns-in_err-pa
 read_map-returns-in_err-pairs-clause-reads t c =
     within_rest (map_format (part_of c.args.levels) c.args.levels) c.args.term c.args.cursor.now c.read_pairs.new.cursor c.from_residual-in_err-pairs.result _ c.from_residual-in_err-pairs.ensures.1
     (or_else (λ e. go_on_ok _ _ _ _ c.in_ok-count.ensures.reads
-    ∙ changed_err ((pairs_after (part_of c.args.levels) [] c.in_ok-count.count).read c.args.term c.count.new.self) by_key map_of _ e) (c.in_err-pairs.ensures.reads c.args.term))
+    ∙ go_on_err _ _ _ e) (c.in_err-pairs.ensures.reads c.args.term))
 
 pub read_map-only_memory-requires : goal.read_map-only_memory-requires
 read_map-only_memory-requires t c =
@@ -147,7 +147,7 @@ read_map-returns-clause-reads t c =
     within_made (map_format (part_of c.args.levels) c.args.levels) c.args.term c.args.cursor.now c.read_pairs.new.cursor c.only_memory.result (map_of c.in_ok-pairs.pairs)
     (IfOk-made c.only_memory.result c.map.result _ c.only_memory.ensures.ok (c.map.ensures ∙ map_built_within c.in_ok-pairs.pairs c.in_ok-pairs.ensures.apart c.in_ok-pairs.ensures.in_order (omega (arith, c.in_ok-pairs.ensures.len)) (omega (arith, depth-map_of c.in_ok-pairs.pairs c.args.levels c.in_ok-pairs.ensures.shallow)))) c.only_memory.ensures.err
     (go_on_ok _ _ _ _ c.in_ok-count.ensures.reads
-    ∙ changed_ok ((pairs_after (part_of c.args.levels) [] c.in_ok-count.count).read c.args.term c.count.new.self) by_key map_of c.in_ok-pairs.pairs c.read_pairs.new.cursor (c.in_ok-pairs.ensures.reads c.args.term))
+    ∙ go_on_ok _ _ _ _ (c.in_ok-pairs.ensures.reads c.args.term))
 
 pub read_map-returns-clause-shallow : goal.read_map-returns-clause-shallow
 read_map-returns-clause-shallow t c =
@@ -172,21 +172,21 @@ read_parts-loop-preserved t c =
 
 pub read_pairs-returns-in_err-term-clause-reads : goal.read_pairs-returns-in_err-term-clause-reads
 read_pairs-returns-in_err-term-clause-reads t c term =
-    within_rest (changed (pairs_after (part_of c.args.levels) [] c.args.count) by_key) term c.args.cursor.now c.read_part.new.cursor c.from_residual.result _ c.from_residual.ensures.1
-    (or_else (λ e. go_on_err _ _ _ (no_key c.args.count c.args.levels term c.args.cursor.now c.loop.cursor c.loop.pairs c.loop.counter _ c.loop.invariant (omega arith) e))
+    within_rest (pairs_after (part_of c.args.levels) [] c.args.count) term c.args.cursor.now c.read_part.new.cursor c.from_residual.result _ c.from_residual.ensures.1
+    (or_else (λ e. (no_key c.args.count c.args.levels term c.args.cursor.now c.loop.cursor c.loop.pairs c.loop.counter _ c.loop.invariant (omega arith) e))
     (c.in_err-term.ensures.reads c.loop.cursor.offset))
 
 pub read_pairs-returns-then-has-clause-reads : goal.read_pairs-returns-then-has-clause-reads
 read_pairs-returns-then-has-clause-reads t c term =
-    inr (go_on_err _ _ _ (key_again c.args.count c.args.levels term c.args.cursor.now c.loop.cursor c.read_part.new.cursor c.loop.pairs c.loop.counter c.in_ok-term.term
+    inr ((key_again c.args.count c.args.levels term c.args.cursor.now c.loop.cursor c.read_part.new.cursor c.loop.pairs c.loop.counter c.in_ok-term.term
     c.loop.invariant (omega arith) c.in_ok-term.ensures.reads (sym c.if-has.ensures))
     ∙ ap (λ at. Err (RepeatedKey at)) (sym c.offset-start.ensures))
 
 pub read_pairs-returns-in_err-value-clause-reads : goal.read_pairs-returns-in_err-value-clause-reads
 read_pairs-returns-in_err-value-clause-reads t c term =
-    within_rest (changed (pairs_after (part_of c.args.levels) [] c.args.count) by_key) term c.args.cursor.now c.read_part-in-loop.new.cursor c.from_residual-in_err-value.result _
+    within_rest (pairs_after (part_of c.args.levels) [] c.args.count) term c.args.cursor.now c.read_part-in-loop.new.cursor c.from_residual-in_err-value.result _
     c.from_residual-in_err-value.ensures.1
-    (or_else (λ e. go_on_err _ _ _ (no_value c.args.count c.args.levels term c.args.cursor.now c.loop.cursor c.read_part.new.cursor c.loop.pairs c.loop.counter c.in_ok-term.term _
+    (or_else (λ e. (no_value c.args.count c.args.levels term c.args.cursor.now c.loop.cursor c.read_part.new.cursor c.loop.pairs c.loop.counter c.in_ok-term.term _
     c.loop.invariant (omega arith) c.in_ok-term.ensures.reads (sym c.if-has.ensures) e))
     (c.in_err-value.ensures.reads term))
 
@@ -197,18 +197,13 @@ read_pairs-loop-preserved t c =
     c.loop.invariant (omega arith) c.in_ok-term.ensures.reads (sym c.if-has.ensures) c.in_ok-value.ensures.reads c.in_ok-term.ensures.shallow c.in_ok-value.ensures.shallow)
 
 pub read_pairs-returns-clause-apart : goal.read_pairs-returns-clause-apart
-read_pairs-returns-clause-apart t c =
-    ap (λ ps. repeats (keys ps)) c.in_ok-into_pairs.ensures ∙ all_apart c.args.count c.args.levels c.args.cursor.now c.loop.cursor c.loop.pairs c.loop.counter c.loop.invariant
+read_pairs-returns-clause-apart t c = ap (λ ps. repeats (keys ps)) c.in_ok-into_pairs.ensures ∙ c.loop.invariant.apart
 
 pub read_pairs-returns-clause-in_order : goal.read_pairs-returns-clause-in_order
-read_pairs-returns-clause-in_order t c =
-    ap by_key c.in_ok-into_pairs.ensures ∙ all_in_order c.args.count c.args.levels c.args.cursor.now c.loop.cursor c.loop.pairs c.loop.counter c.loop.invariant
-    ∙ sym c.in_ok-into_pairs.ensures
+read_pairs-returns-clause-in_order t c = ap by_key c.in_ok-into_pairs.ensures ∙ c.loop.invariant.in_order ∙ sym c.in_ok-into_pairs.ensures
 
 pub read_pairs-returns-clause-len : goal.read_pairs-returns-clause-len
-read_pairs-returns-clause-len t c =
-    ap length c.in_ok-into_pairs.ensures ∙ all_counted c.args.count c.args.levels c.args.cursor.now c.loop.cursor c.loop.pairs c.loop.counter c.loop.invariant ∙ omega arith
+read_pairs-returns-clause-len t c = ap length c.in_ok-into_pairs.ensures ∙ omega (arith, c.loop.invariant.len)
 
 pub read_pairs-returns-clause-shallow : goal.read_pairs-returns-clause-shallow
-read_pairs-returns-clause-shallow t c =
-    omega (arith, ap deepest_of_pairs c.in_ok-into_pairs.ensures, all_shallow c.args.count c.args.levels c.args.cursor.now c.loop.cursor c.loop.pairs c.loop.counter c.loop.invariant)
+read_pairs-returns-clause-shallow t c = omega (arith, ap deepest_of_pairs c.in_ok-into_pairs.ensures, c.loop.invariant.shallow)

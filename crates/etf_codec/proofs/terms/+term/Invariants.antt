@@ -1,7 +1,7 @@
 use Rattle.std.proofs.Common.{◌≡◌, ℕ, ◌+◌, ◌*◌, ◌-◌, ◌≤◌, length}
 use Rattle.dets_term.specs.Parts.{deepest}
 use Rattle.etf_codec.specs.Format.{times}
-use Rattle.etf_codec.specs.Reads.{part_of}
+use Rattle.etf_codec.specs.ReadTerms.{part_of}
 use Rattle.etf_codec.proofs.Collecting.{behind}
 use Rattle.etf_codec.proofs.PairsRead.{PairsSoFar}
 use Rattle.etf_codec.proofs.terms.+term.Given as goal

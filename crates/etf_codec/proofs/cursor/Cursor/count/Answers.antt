@@ -1,12 +1,13 @@
 use Rattle.std.proofs.Common.{◌-◌, ◌∙◌, ap, arith, false}
 use Rattle.etf_codec.specs.Spelling.{number, count, count_after}
 use Rattle.etf_codec.proofs.Counts.{count_number, count_more, count_deep, count_fails}
-use Rattle.etf_codec.proofs.Reading.{reads_fault, reads_same}
+use Rattle.etf_codec.proofs.Reading.{reads_fault}
+use Rattle.etf_codec.proofs.Within.{reads_alike}
 use Rattle.etf_codec.proofs.cursor.Cursor.count.Goals as goal
 
 pub returns-then-levels-gt0-clause-reads : goal.returns-then-levels-gt0-clause-reads
 returns-then-levels-gt0-clause-reads c =
-    reads_same (number c.args.size) (count c.args.levels c.args.size) c.args.term _ _ c.number.result (count_number c.args.levels c.args.size c.args.term _ (omega arith)) (c.number.ensures c.args.term)
+    reads_alike (number c.args.size) (count c.args.levels c.args.size) c.args.term _ _ c.number.result (count_number c.args.levels c.args.size c.args.term _ (omega arith)) (c.number.ensures c.args.term)
 
 pub returns-in_err-byte-clause-reads : goal.returns-in_err-byte-clause-reads
 returns-in_err-byte-clause-reads c =

@@ -2,7 +2,8 @@ use Rattle.std.proofs.Common.{◌-◌, ◌+◌, ◌*◌, ◌^◌, ◌∙◌, Err
 use Rattle.etf_codec.specs.declared.fault.EtfFault.TheVariants.{IntegerRange}
 use Rattle.etf_codec.specs.Spelling.{magnitude_after}
 use Rattle.etf_codec.proofs.Magnitudes.{magnitude_more, magnitude_passes, magnitude_fails}
-use Rattle.etf_codec.proofs.Reading.{reads_fault, ok_or_none, ok_or_some}
+use Rattle.etf_codec.proofs.Reading.{reads_fault}
+use Rattle.etf_codec.proofs.Within.{ok_or_none, ok_or_some}
 use Rattle.etf_codec.proofs.Bytes.{pow_256_more}
 use Rattle.etf_codec.proofs.cursor.Cursor.magnitude.Goals as goal
 

@@ -1,0 +1,148 @@
+ghost use Rattle.std.specs.Prelude.{ℕ, ◌≤◌, ◌+◌, ◌*◌, ◌<◌, ◌^◌};
+ghost use Rattle.etf_codec.specs.Reads.{Reads, ReadsAs, behind_tag};
+ghost use Rattle.etf_codec.specs.Skipping.{has_layout, gap, sized_gap, node, at_node, reference, parts, counted, skip_body, skipped_at, SkipsBy};
+ghost use Rattle.etf_codec.specs.declared.fault.EtfFault.TheVariants.{Unsupported};
+
+use crate::EtfFault;
+use crate::cursor::Cursor;
+
+#[cfg(test)]
+mod tests;
+
+/// How many levels a term that is passed over has at most.
+const MAX_LEVELS: u32 = 256;
+
+/// The length of the term that begins the bytes with its tag. `Short`, `Unsupported` and `Depth` only. It takes no
+/// memory.
+pub fn skip(bytes: &[u8]) -> Result<usize, EtfFault>
+    ensures { SkipsBy bytes.now result }
+{
+    let mut cursor = Cursor::new(bytes);
+    skip_term(&mut cursor, MAX_LEVELS)?;
+    Ok(cursor.offset() as usize)
+}
+
+/// Passes over a term with so many levels.
+#[cycle(skip)]
+fn skip_term(cursor: &mut Cursor, levels: u32) -> Result<(), EtfFault>
+    ensures { (term : ℕ) → Reads (skipped_at levels) term cursor.old cursor.new result }
+{
+    let at = cursor.offset();
+    let tag = cursor.byte()?;
+    if levels == 0 {
+        return Err(EtfFault::Depth(at));
+    }
+    skip_tagged(cursor, levels - 1, tag, at)
+}
+
+/// Passes over what follows the tag at an offset, with so many levels below it.
+#[cycle(skip)]
+fn skip_tagged(cursor: &mut Cursor, levels: u32, tag: u8, at: u64) -> Result<(), EtfFault>
+    ensures { ReadsAs (behind_tag (has_layout tag) (Unsupported at tag) (skip_body (skipped_at levels) tag) at cursor.old) cursor.new result }
+{
+    match tag {
+        97 => skip_bytes(cursor, 1),
+        98 => skip_bytes(cursor, 4),
+        70 => skip_bytes(cursor, 8),
+        110 => skip_sized(cursor, 1, 1),
+        111 => skip_sized(cursor, 4, 1),
+        100 => skip_sized(cursor, 2, 0),
+        115 => skip_sized(cursor, 1, 0),
+        118 => skip_sized(cursor, 2, 0),
+        119 => skip_sized(cursor, 1, 0),
+        107 => skip_sized(cursor, 2, 0),
+        109 => skip_sized(cursor, 4, 0),
+        77 => skip_sized(cursor, 4, 1),
+        106 => Ok(()),
+        104 => skip_counted(cursor, levels, 1, 1, 0),
+        105 => skip_counted(cursor, levels, 4, 1, 0),
+        108 => skip_counted(cursor, levels, 4, 1, 1),
+        116 => skip_counted(cursor, levels, 4, 2, 0),
+        103 => skip_at_node(cursor, 9),
+        88 => skip_at_node(cursor, 12),
+        102 => skip_at_node(cursor, 5),
+        89 => skip_at_node(cursor, 8),
+        120 => skip_at_node(cursor, 12),
+        114 => skip_reference(cursor, 1),
+        90 => skip_reference(cursor, 4),
+        _ => Err(EtfFault::Unsupported(at, tag)),
+    }
+}
+
+/// Passes over a number of so many bytes, for each one so many terms, and so many more.
+#[cycle(skip)]
+fn skip_counted(
+    cursor: &mut Cursor,
+    levels: u32,
+    size: u32,
+    each: u64,
+    extra: u64,
+) -> Result<(), EtfFault>
+    requires size { size ≤ 4 }
+    requires each { each ≤ 2 }
+    requires extra { extra ≤ 1 }
+    ensures { (term : ℕ) → Reads (counted (skipped_at levels) size each extra) term cursor.old cursor.new result }
+{
+    let count = u64::from(cursor.number(size)?);
+    skip_parts(cursor, levels, each * count + extra)
+}
+
+/// Passes over so many terms.
+#[cycle(skip)]
+fn skip_parts(cursor: &mut Cursor, levels: u32, count: u64) -> Result<(), EtfFault>
+    ensures { (term : ℕ) → Reads (parts (skipped_at levels) count) term cursor.old cursor.new result }
+{
+    for _ in 0..count {
+        skip_term(cursor, levels)?;
+    }
+    Ok(())
+}
+
+/// Passes over so many bytes.
+fn skip_bytes(cursor: &mut Cursor, count: u64) -> Result<(), EtfFault>
+    ensures { (term : ℕ) → Reads (gap count) term cursor.old cursor.new result }
+{
+    cursor.take(count as usize)?;
+    Ok(())
+}
+
+/// Passes over a number of so many bytes, as many bytes as it says and so many more.
+fn skip_sized(cursor: &mut Cursor, size: u32, extra: u64) -> Result<(), EtfFault>
+    requires size { size ≤ 4 }
+    requires extra { extra ≤ 1 }
+    ensures { (term : ℕ) → Reads (sized_gap size extra) term cursor.old cursor.new result }
+{
+    let count = u64::from(cursor.number(size)?);
+    skip_bytes(cursor, count + extra)
+}
+
+/// Passes over the name of a node.
+fn skip_node(cursor: &mut Cursor) -> Result<(), EtfFault>
+    ensures { (term : ℕ) → Reads node term cursor.old cursor.new result }
+{
+    let at = cursor.offset();
+    match cursor.byte()? {
+        100 => skip_sized(cursor, 2, 0),
+        118 => skip_sized(cursor, 2, 0),
+        115 => skip_sized(cursor, 1, 0),
+        119 => skip_sized(cursor, 1, 0),
+        tag => Err(EtfFault::Unsupported(at, tag)),
+    }
+}
+
+/// Passes over a node and so many bytes behind it.
+fn skip_at_node(cursor: &mut Cursor, count: u64) -> Result<(), EtfFault>
+    ensures { (term : ℕ) → Reads (at_node count) term cursor.old cursor.new result }
+{
+    skip_node(cursor)?;
+    skip_bytes(cursor, count)
+}
+
+/// Passes over a reference whose creation has so many bytes.
+fn skip_reference(cursor: &mut Cursor, creation: u64) -> Result<(), EtfFault>
+    requires { creation ≤ 4 }
+    ensures { (term : ℕ) → Reads (reference creation) term cursor.old cursor.new result }
+{
+    let count = u64::from(cursor.number(2)?);
+    skip_at_node(cursor, creation + 4 * count)
+}
