@@ -4,8 +4,8 @@ use Rattle.std.proofs.lemmas.Bool.Decides.{nat_tests}
 use Rattle.dets_term.specs.TermValue.{integer, nil}
 use Rattle.etf_codec.specs.Format.{Place, byte, changed}
 use Rattle.etf_codec.specs.Layout.{signed_32}
-use Rattle.etf_codec.specs.ReadTerms.{part_of, tail_of, body_of}
-use Rattle.etf_codec.specs.Spelling.{number, big_integer, name, binary, bit_binary, string, tuple_of, list_of, map_format}
+use Rattle.etf_codec.specs.ReadTerms.{body_of}
+use Rattle.etf_codec.specs.Spelling.{number, big_integer, name, binary, bit_binary, string, tuple_of, list_of, map_format, part_at, tail_at}
 
 apart : (tag n : ℕ) → tag ≢ n → (tag == n) ≡ false
 apart tag n h = grind (arith, nat_tests)
@@ -50,11 +50,11 @@ pub body-bit_binary : (levels tag term : ℕ) (place : Place) → tag ≡ 77 →
 unfolding body_of
 body-bit_binary levels tag term place e = rw e refl
 
-pub body-small_tuple : (levels tag term : ℕ) (place : Place) → tag ≡ 104 → (body_of levels tag).read term place ≡ (tuple_of (part_of levels) levels 1).read term place
+pub body-small_tuple : (levels tag term : ℕ) (place : Place) → tag ≡ 104 → (body_of levels tag).read term place ≡ (tuple_of (part_at levels) levels 1).read term place
 unfolding body_of
 body-small_tuple levels tag term place e = rw e refl
 
-pub body-large_tuple : (levels tag term : ℕ) (place : Place) → tag ≡ 105 → (body_of levels tag).read term place ≡ (tuple_of (part_of levels) levels 4).read term place
+pub body-large_tuple : (levels tag term : ℕ) (place : Place) → tag ≡ 105 → (body_of levels tag).read term place ≡ (tuple_of (part_at levels) levels 4).read term place
 unfolding body_of
 body-large_tuple levels tag term place e = rw e refl
 
@@ -62,11 +62,11 @@ pub body-string : (levels tag term : ℕ) (place : Place) → tag ≡ 107 → (b
 unfolding body_of
 body-string levels tag term place e = rw e refl
 
-pub body-list : (levels tag term : ℕ) (place : Place) → tag ≡ 108 → (body_of levels tag).read term place ≡ (list_of (part_of levels) (tail_of levels) levels).read term place
+pub body-list : (levels tag term : ℕ) (place : Place) → tag ≡ 108 → (body_of levels tag).read term place ≡ (list_of (part_at levels) (tail_at levels) levels).read term place
 unfolding body_of
 body-list levels tag term place e = rw e refl
 
-pub body-map : (levels tag term : ℕ) (place : Place) → tag ≡ 116 → (body_of levels tag).read term place ≡ (map_format (part_of levels) levels).read term place
+pub body-map : (levels tag term : ℕ) (place : Place) → tag ≡ 116 → (body_of levels tag).read term place ≡ (map_format (part_at levels) levels).read term place
 unfolding body_of
 body-map levels tag term place e = rw e refl
 

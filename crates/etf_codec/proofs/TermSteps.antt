@@ -7,8 +7,8 @@ use Rattle.dets_term.specs.IsTerm.{built}
 use Rattle.dets_term.specs.Parts.{deepest, parts_depth-chain}
 use Rattle.etf_codec.specs.declared.fault.EtfFault.{EtfFault}
 use Rattle.etf_codec.specs.Format.{Place, Reading, byte, go_on, changed, either}
-use Rattle.etf_codec.specs.ReadTerms.{part_of, tail_of, body_of}
-use Rattle.etf_codec.specs.Spelling.{count, list_of, no_tail, term_with}
+use Rattle.etf_codec.specs.ReadTerms.{body_of}
+use Rattle.etf_codec.specs.Spelling.{count, list_of, no_tail, term_with, part_at, tail_at}
 use Rattle.etf_codec.proofs.Bytes.{go_on_ok, go_on_err, test_passes, test_fails}
 use Rattle.etf_codec.proofs.Built.{built_within}
 
@@ -42,16 +42,16 @@ again (Err fault) = refl
 
 -- without elements
 pub list_none : (levels term n : ℕ) (place next : Place) → (count levels 4).read term place ≡ Ok (n, next) → n ≡ 0
-    → (list_of (part_of levels) (tail_of levels) levels).read term place ≡ no_tail.read term next
+    → (list_of (part_at levels) (tail_at levels) levels).read term place ≡ no_tail.read term next
 list_none levels term n place next e none =
     go_on_ok _ _ _ _ (e ∙ ap (λ k. Ok (k, next)) none) ∙ again (no_tail.read term next)
 
 -- with elements it ends in its tail
 pub list_tail : (levels term n : ℕ) (place : Place) (ts : List TermValue) → n ≢ 0
-    → (changed (either (n == 0) no_tail (tail_of levels)) (λ end. chain ts end)).read term place ≡ (changed (tail_of levels) (λ end. chain ts end)).read term place
+    → (changed (either (n == 0) no_tail (tail_at levels)) (λ end. chain ts end)).read term place ≡ (changed (tail_at levels) (λ end. chain ts end)).read term place
 list_tail levels term n place ts some =
     let apart : (n == 0) ≡ false = grind (arith, nat_tests) in
-    ap (λ b. (changed (either b no_tail (tail_of levels)) (λ end. chain ts end)).read term place) apart
+    ap (λ b. (changed (either b no_tail (tail_at levels)) (λ end. chain ts end)).read term place) apart
 
 below : (b : Bool) (n : ℕ) → cond b n (suc n) ≤ suc n
 below true n = omega arith

@@ -2,10 +2,10 @@
 use Rattle.std.specs.Prelude.{◌≡◌, ℕ, Bool, true, false, List, [], Result, Ok, Err, ◌⊎◌}
 use Rattle.dets_term.specs.TermValue.{TermValue, atom, parts_depth, elements}
 use Rattle.etf_codec.specs.declared.fault.EtfFault.{EtfFault}
-use Rattle.etf_codec.specs.declared.fault.EtfFault.TheVariants.{Memory, BadAtom, Unsupported}
+use Rattle.etf_codec.specs.declared.fault.EtfFault.TheVariants.{Memory, BadAtom}
 use Rattle.etf_codec.specs.Format.{Format}
-use Rattle.etf_codec.specs.Layout.{is_name, is_known, begins_tail, characters}
-use Rattle.etf_codec.specs.Spelling.{body, term_with}
+use Rattle.etf_codec.specs.Layout.{is_name, characters}
+use Rattle.etf_codec.specs.Spelling.{body, part_at, tail_at}
 
 -- a term without parts
 abbrev pub IsLeaf : TermValue → Type 0
@@ -16,13 +16,6 @@ abbrev pub IsAtomOf : Bool → List ℕ → ℕ → Result TermValue EtfFault �
 IsAtomOf utf8 bytes term (Ok t) = (is_name utf8 bytes ≡ true) × (t ≡ atom (characters utf8 bytes))
 IsAtomOf utf8 bytes term (Err fault) = (fault ≡ Memory) ⊎ ((is_name utf8 bytes ≡ false) × (fault ≡ BadAtom term))
 
--- a part of a term, and the tail of a list, below which so many levels are left
-abbrev pub part_of : ℕ → Format TermValue
-part_of levels = term_with is_known (λ term x. Unsupported term x) levels
-
-abbrev pub tail_of : ℕ → Format TermValue
-tail_of levels = term_with begins_tail (λ term x. Unsupported term x) levels
-
 -- what follows a tag, below which so many levels are left
 unfoldable pub body_of : ℕ → ℕ → Format TermValue
-body_of levels tag = body (part_of levels) (tail_of levels) levels tag
+body_of levels tag = body (part_at levels) (tail_at levels) levels tag

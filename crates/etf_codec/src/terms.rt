@@ -6,8 +6,8 @@ ghost use Rattle.dets_term.specs.TermValue.{depth, elements};
 ghost use Rattle.etf_codec.specs.Format.{times};
 ghost use Rattle.etf_codec.specs.Layout.{is_known, begins_tail};
 ghost use Rattle.etf_codec.specs.Reads.{ReadsWithin};
-ghost use Rattle.etf_codec.specs.ReadTerms.{part_of, tail_of, body_of};
-ghost use Rattle.etf_codec.specs.Spelling.{tuple_of, list_of, map_format, pairs_after};
+ghost use Rattle.etf_codec.specs.ReadTerms.{body_of};
+ghost use Rattle.etf_codec.specs.Spelling.{tuple_of, list_of, map_format, pairs_after, part_at, tail_at};
 
 use crate::EtfFault;
 use crate::building::only_memory;
@@ -23,7 +23,7 @@ use std::alloc::Global;
 #[cycle(term)]
 fn read_part(alloc: Global, cursor: &mut Cursor<'_>, levels: u32) -> Result<Term, EtfFault>
     requires { levels < 256 }
-    ensures reads { (term : ℕ) → ReadsWithin (part_of levels) term cursor.old cursor.new result }
+    ensures reads { (term : ℕ) → ReadsWithin (part_at levels) term cursor.old cursor.new result }
     ensures shallow { IfOk result (λ t. depth t ≤ levels) }
 {
     let start = cursor.offset();
@@ -41,7 +41,7 @@ fn read_part(alloc: Global, cursor: &mut Cursor<'_>, levels: u32) -> Result<Term
 #[cycle(term)]
 fn read_tail(alloc: Global, cursor: &mut Cursor<'_>, levels: u32) -> Result<Term, EtfFault>
     requires { levels < 256 }
-    ensures reads { (term : ℕ) → ReadsWithin (tail_of levels) term cursor.old cursor.new result }
+    ensures reads { (term : ℕ) → ReadsWithin (tail_at levels) term cursor.old cursor.new result }
     ensures shallow { IfOk result (λ t. depth t ≤ levels) }
     ensures alone { IfOk result (λ t. elements t ≡ []) }
 {
@@ -92,7 +92,7 @@ fn read_tuple(
 ) -> Result<Term, EtfFault>
     requires size { size ≤ 4 }
     requires levels { levels < 256 }
-    ensures reads { ReadsWithin (tuple_of (part_of levels) levels size) term cursor.old cursor.new result }
+    ensures reads { ReadsWithin (tuple_of (part_at levels) levels size) term cursor.old cursor.new result }
     ensures shallow { IfOk result (λ t. depth t ≤ suc levels) }
     ensures alone { IfOk result (λ t. elements t ≡ []) }
 {
@@ -110,7 +110,7 @@ fn read_list(
     term: u64,
 ) -> Result<Term, EtfFault>
     requires { levels < 256 }
-    ensures reads { ReadsWithin (list_of (part_of levels) (tail_of levels) levels) term cursor.old cursor.new result }
+    ensures reads { ReadsWithin (list_of (part_at levels) (tail_at levels) levels) term cursor.old cursor.new result }
     ensures shallow { IfOk result (λ t. depth t ≤ suc levels) }
 {
     let count = cursor.count(4, levels, term)?;
@@ -131,7 +131,7 @@ fn read_map(
     term: u64,
 ) -> Result<Term, EtfFault>
     requires { levels < 256 }
-    ensures reads { ReadsWithin (map_format (part_of levels) levels) term cursor.old cursor.new result }
+    ensures reads { ReadsWithin (map_format (part_at levels) levels) term cursor.old cursor.new result }
     ensures shallow { IfOk result (λ t. depth t ≤ suc levels) }
     ensures alone { IfOk result (λ t. elements t ≡ []) }
 {
@@ -149,7 +149,7 @@ fn read_parts(
     levels: u32,
 ) -> Result<TermList, EtfFault>
     requires { levels < 256 }
-    ensures reads { (term : ℕ) → ReadsWithin (times count (part_of levels)) term cursor.old cursor.new result }
+    ensures reads { (term : ℕ) → ReadsWithin (times count (part_at levels)) term cursor.old cursor.new result }
     ensures len { IfOk result (λ parts. length parts ≡ count) }
     ensures shallow { IfOk result (λ parts. deepest parts ≤ levels) }
 {
@@ -170,7 +170,7 @@ fn read_pairs(
     levels: u32,
 ) -> Result<PairList, EtfFault>
     requires { levels < 256 }
-    ensures reads { (term : ℕ) → ReadsWithin (pairs_after (part_of levels) [] count) term cursor.old cursor.new result }
+    ensures reads { (term : ℕ) → ReadsWithin (pairs_after (part_at levels) [] count) term cursor.old cursor.new result }
     ensures apart { IfOk result (λ pairs. repeats (keys pairs) ≡ false) }
     ensures in_order { IfOk result (λ pairs. by_key pairs ≡ pairs) }
     ensures len { IfOk result (λ pairs. length pairs ≡ count) }

@@ -1,7 +1,7 @@
 use Rattle.std.proofs.Common.{◌≡◌, ℕ, ◌+◌, ◌*◌, ◌-◌, ◌≤◌, length}
 use Rattle.dets_term.specs.Parts.{deepest}
+use Rattle.etf_codec.specs.Spelling.{part_at}
 use Rattle.etf_codec.specs.Format.{times}
-use Rattle.etf_codec.specs.ReadTerms.{part_of}
 use Rattle.etf_codec.proofs.Collecting.{behind}
 use Rattle.etf_codec.proofs.PairsRead.{PairsSoFar}
 use Rattle.etf_codec.proofs.terms.+term.Given as goal
@@ -33,7 +33,7 @@ decreases-read_body l = 4 * l.levels + 3
 -- what is left to read stands behind the parts so far
 abbrev pub invariant-read_parts-loop : goal.invariant-read_parts-loop
 invariant-read_parts-loop l = (length l.parts ≡ l.counter) × (deepest l.parts ≤ l.fn.levels)
-    × ((term : ℕ) → (times l.fn.count (part_of l.fn.levels)).read term l.fn.cursor ≡ behind l.parts ((times (l.fn.count - l.counter) (part_of l.fn.levels)).read term l.cursor))
+    × ((term : ℕ) → (times l.fn.count (part_at l.fn.levels)).read term l.fn.cursor ≡ behind l.parts ((times (l.fn.count - l.counter) (part_at l.fn.levels)).read term l.cursor))
 
 abbrev pub invariant-read_pairs-loop : goal.invariant-read_pairs-loop
 invariant-read_pairs-loop l = PairsSoFar l.fn.count l.fn.levels l.fn.cursor l.cursor l.pairs l.counter
