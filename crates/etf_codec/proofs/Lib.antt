@@ -39,3 +39,4 @@ pub mod Breaks
 pub mod ByReading
 pub mod Computing
 pub mod Within
+pub mod OneDecoding

@@ -14,6 +14,7 @@ mod bits;
 mod building;
 mod cursor;
 mod decoding;
+pub mod decoding_laws;
 mod encoding;
 pub mod encoding_laws;
 mod fault;
