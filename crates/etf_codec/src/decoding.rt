@@ -59,3 +59,6 @@ fn unknown_tag(start: u64, tag: u8) -> EtfFault
         EtfFault::Unsupported(start, tag)
     }
 }
+
+#[cfg(test)]
+mod tests;
