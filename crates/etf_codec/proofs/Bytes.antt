@@ -1,10 +1,10 @@
 -- Runs of bytes and big-endian numbers, as formats read them.
-use Rattle.std.proofs.Common.{◌≡◌, ℕ, zero, suc, ◌+◌, ◌*◌, ◌-◌, ◌^◌, ◌<◌, ◌≤◌, List, [], ◌∷◌, length, take, drop, Ok, Err, refl, ap, ◌∙◌, arith, add-one}
+use Rattle.std.proofs.Common.{◌≡◌, ℕ, zero, suc, ◌+◌, ◌*◌, ◌-◌, ◌^◌, ◌<◌, ◌≤◌, List, [], ◌∷◌, length, take, drop, Ok, Err, refl, ap, ◌∙◌, arith, add-one, Bool, true, false, cond}
 use Rattle.etf_codec.specs.declared.fault.EtfFault.{EtfFault}
 use Rattle.etf_codec.specs.declared.fault.EtfFault.TheVariants.{Short}
 use Rattle.std.proofs.Math.Nat.{pow-succ'}
 use Rattle.std.proofs.lemmas.List.{take_rest, drop-drop}
-use Rattle.etf_codec.specs.Format.{Place, Reading, byte, times, go_on}
+use Rattle.etf_codec.specs.Format.{Place, Reading, byte, times, go_on, judged}
 use Rattle.etf_codec.specs.Reads.{place_at}
 use Rattle.etf_codec.specs.Spelling.{number_after}
 
@@ -62,3 +62,12 @@ number_fails value (suc n) term place fault h e = go_on_err _ _ _ e
 
 pub pow_256_more : (n : ℕ) → 256 ^ (n + 1) ≡ 256 * 256 ^ n
 pow_256_more n = rw add-one (pow-succ' 256 n)
+
+-- a value that passes its test, and one that does not
+pub test_passes : {A : Type 0} (r : Reading A) (x : A) (behind : Place) (test : A → Bool) (fault : A → EtfFault) → r ≡ Ok (x, behind) → test x ≡ true
+    → go_on r (λ y place. judged (test y) (fault y) y place) ≡ Ok (x, behind)
+test_passes r x behind test fault e p = go_on_ok r x behind _ e ∙ ap (λ b. cond b (Ok (x, behind)) (Err (fault x))) p
+
+pub test_fails : {A : Type 0} (r : Reading A) (x : A) (behind : Place) (test : A → Bool) (fault : A → EtfFault) → r ≡ Ok (x, behind) → test x ≡ false
+    → go_on r (λ y place. judged (test y) (fault y) y place) ≡ Err (fault x)
+test_fails r x behind test fault e p = go_on_ok r x behind _ e ∙ ap (λ b. cond b (Ok (x, behind)) (Err (fault x))) p

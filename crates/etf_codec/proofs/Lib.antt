@@ -1,5 +1,10 @@
 -- Lemmas that several proofs share.
-pub mod Kept
+pub mod Bytes
+pub mod Reading
+pub mod Magnitudes
+pub mod Counts
+pub mod HandedOn
+pub mod Naming
 pub mod FewestBytes
 pub mod Packing
 pub mod CanonicalParts
@@ -8,9 +13,18 @@ pub mod WholeFormats
 pub mod WholeLeaves
 pub mod WholeTerms
 pub mod CanonicalSpells
+pub mod Kept
 pub mod Exactness
 pub mod Sharpness
 pub mod Moving
+pub mod Built
+pub mod Bodies
+pub mod Collecting
+pub mod PairOrder
+pub mod Entries
+pub mod TermSteps
+pub mod PairsRead
+pub mod Decodings
 pub mod WantOfMemory
 pub mod SpellingKept
 pub mod SpellingExact
@@ -18,11 +32,11 @@ pub mod SkippingKept
 pub mod SkippingExact
 pub mod GoOn
 pub mod Resuming
-pub mod Bytes
 pub mod Passing
 pub mod Answering
-pub mod Reading
 pub mod Beginnings
 pub mod Breaks
 pub mod ByReading
 pub mod Computing
+pub mod Within
+pub mod OneDecoding

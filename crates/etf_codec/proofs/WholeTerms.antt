@@ -1,5 +1,5 @@
 -- The canonical spelling of tuples, lists and maps spells them where that of their parts does.
-use Rattle.std.proofs.Common.{◌≡◌, ℕ, zero, suc, ◌^◌, ◌<◌, ◌≤◌, true, false, cond, not, ◌==◌, List, [], ◌∷◌, ◌++◌, length, map, ⊎_elim, refl, sym, ap, ◌∙◌, subst, arith, append_assoc}
+use Rattle.std.proofs.Common.{◌≡◌, ℕ, zero, suc, ◌^◌, ◌<◌, ◌≤◌, true, false, not, ◌==◌, cond, List, [], ◌∷◌, ◌++◌, length, map, ⊎_elim, refl, sym, ap, ◌∙◌, subst, arith, append_assoc}
 use Rattle.std.specs.List.{flat_map, list_any, list_all, AllByRecursion}
 use Rattle.std.specs.Int.{bytes_high_first}
 use Rattle.std.specs.declared.cmp.Ordering.TheVariants.{Less}
@@ -64,18 +64,13 @@ none_same [] k rest up = refl
 none_same (l ∷ ks) k rest up =
     or_from (is_same k l) (list_any (is_same k) ks) (apart k l (above k l ks rest (all_above l (ks ++ k ∷ rest) up.0 up.1))) (none_same ks k rest up.1)
 
--- what is less than each of some keys is less than one among them
-less_later : (k : TermValue) (qs : List (TermValue × TermValue)) (p : TermValue × TermValue) (ps : List (TermValue × TermValue)) → AllByRecursion (λ l. order k l ≡ Less) (keys (qs ++ p ∷ ps)) → order k p.0 ≡ Less
-less_later k [] p ps h = h.0
-less_later k (q ∷ qs) p ps h = less_later k qs p ps h.1
-
--- the pair of the greatest key goes last
-placed-last : (seen : List (TermValue × TermValue)) (p : TermValue × TermValue) (ps : List (TermValue × TermValue)) → AreAscending (keys (seen ++ p ∷ ps)) → placed p seen ≡ seen ++ p ∷ []
-placed-last [] p ps up = refl
-placed-last (q ∷ seen) p ps up =
-    let less : order q.0 p.0 ≡ Less = less_later q.0 seen p ps (all_above q.0 (keys (seen ++ p ∷ ps)) up.0 up.1) in
-    let greater : order p.0 q.0 ≡ ordering_reverse Less = order_total.antisymm p.0 q.0 ∙ ap ordering_reverse less in
-    ap (λ o. cond (is_lt o) (p ∷ q ∷ seen) (q ∷ placed p seen)) greater ∙ ap (λ qs. q ∷ qs) (placed-last seen p ps up.1)
+-- a pair with a greater key goes last
+last_placed : (seen : List (TermValue × TermValue)) (p : TermValue × TermValue) (rest : List TermValue) → AreAscending (keys seen ++ p.0 ∷ rest) → placed p seen ≡ seen ++ p ∷ []
+last_placed [] p rest up = refl
+last_placed (q ∷ seen) p rest up =
+    let less = above p.0 q.0 (keys seen) rest (all_above q.0 (keys seen ++ p.0 ∷ rest) up.0 up.1) in
+    ap (λ b. cond b (p ∷ q ∷ seen) (q ∷ placed p seen)) (ap is_lt (order_total.antisymm p.0 q.0 ∙ ap ordering_reverse less))
+    ∙ ap (λ ps. q ∷ ps) (last_placed seen p rest up.1)
 
 module _ (part tail : Format TermValue) (levels : ℕ) where
   -- the canonical spelling of a part spells it
@@ -156,17 +151,18 @@ module _ (part tail : Format TermValue) (levels : ℕ) where
       → (pairs_after part seen (length ps)).Whole (seen ++ ps) (flat_map spelled_pair ps)
   pairs_whole seen [] up all = (append-nil seen, refl)
   pairs_whole seen (p ∷ ps) up all =
-      let new = none_same (keys seen) p.0 (keys ps) (subst AreAscending (map-append (λ p. p.0) seen (p ∷ ps)) up) in
+      let ascending = subst AreAscending (map-append (λ p. p.0) seen (p ∷ ps)) up in
+      let new = none_same (keys seen) p.0 (keys ps) ascending in
+      let last = last_placed seen p (keys ps) ascending in
       let next = append_assoc seen (p ∷ []) ps in
-      let last = placed-last seen p ps up in
       let rest = pairs_whole (seen ++ p ∷ []) ps (subst (λ qs. AreAscending (keys qs)) (sym next) up) all.1 in
       whole_at (pairs_after part seen (suc (length ps))) (seen ++ p ∷ ps) (seen ++ p ∷ ps) _ _ refl (sym (append_assoc (canonical p.0) (canonical p.1) (flat_map spelled_pair ps)))
       (followed_whole (framed (tested part (λ k. not (list_any (is_same k) (keys seen))) (λ term k. RepeatedKey term)))
       (λ k. followed part (λ v. pairs_after part (placed (k, v) seen) (length ps))) p.0 (seen ++ p ∷ ps) (canonical p.0) (canonical p.1 ++ flat_map spelled_pair ps)
       (all.0.0, not_from_false _ new)
       (followed_whole part (λ v. pairs_after part (placed (p.0, v) seen) (length ps)) p.1 (seen ++ p ∷ ps) (canonical p.1) (flat_map spelled_pair ps) all.0.1
-      (subst (λ before. (pairs_after part before (length ps)).Whole (seen ++ p ∷ ps) (flat_map spelled_pair ps)) (sym last)
-      (whole_at (pairs_after part (seen ++ p ∷ []) (length ps)) ((seen ++ p ∷ []) ++ ps) (seen ++ p ∷ ps) _ _ next refl rest))))
+      (whole_at (pairs_after part (placed p seen) (length ps)) ((seen ++ p ∷ []) ++ ps) (seen ++ p ∷ ps) _ _ next refl
+      (subst (λ qs. (pairs_after part qs (length ps)).Whole ((seen ++ p ∷ []) ++ ps) (flat_map spelled_pair ps)) (sym last) rest))))
 
   pub map_tagged : (ps : List (TermValue × TermValue)) → length ps < 2 ^ 32 → MayCount (may_have_parts levels) (length ps) → AreAscending (keys ps) → AllByRecursion (λ p. IsPart p.0 × IsPart p.1) ps
       → Tagged part tail levels (map_of ps) (head 116 4 (length ps) ++ flat_map spelled_pair ps)

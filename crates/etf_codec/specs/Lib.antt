@@ -10,10 +10,14 @@ pub mod Exact
 pub mod Sharp
 pub mod Layout
 pub mod Spelling
-pub mod Skipping
-pub mod Machine
 pub mod Reads
-pub mod Answers
+pub mod ReadTerms
+pub mod KeyOrder
+pub mod Keyed
 pub mod Canonical
 pub mod Fronts
 pub mod Moved
+pub mod Decoding
+pub mod Skipping
+pub mod Machine
+pub mod Answers

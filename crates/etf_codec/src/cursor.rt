@@ -1,7 +1,7 @@
-ghost use Rattle.std.specs.Prelude.{◌≡◌, ℕ, ◌<◌, ◌≤◌, ◌+◌, ◌^◌, ◌*◌, length, IfOk, IfErr};
+ghost use Rattle.std.specs.Prelude.{◌≡◌, ℕ, ◌<◌, ◌≤◌, ◌+◌, ◌^◌, ◌*◌, length, IfOk, IfErr, MatchOption};
 ghost use Rattle.etf_codec.specs.Format.{byte, times};
 ghost use Rattle.etf_codec.specs.Reads.{Reads};
-ghost use Rattle.etf_codec.specs.Spelling.{number};
+ghost use Rattle.etf_codec.specs.Spelling.{number, sized, count, magnitude_after};
 
 use crate::EtfFault;
 use std::marker::Model;
@@ -54,6 +54,7 @@ impl<'a> Cursor<'a> {
     pub fn take(&mut self, count: usize) -> Result<&'a [u8], EtfFault>
         ensures ok { IfOk result (λ front. (term : ℕ) → (times count byte).read term self.old ≡ Ok (front.now, self.new)) }
         ensures err { IfErr result (λ fault. (term : ℕ) → (times count byte).read term self.old ≡ Err fault) }
+        ensures len { IfOk result (λ front. length front.now ≡ count) }
     {
         let left = &self.bytes[self.at..];
         if left.len() < count {
@@ -73,5 +74,68 @@ impl<'a> Cursor<'a> {
             value = 256 * value + u32::from(self.byte()?);
         }
         Ok(value)
+    }
+
+    /// As many bytes as a number in front of them says, which has so many bytes, at most four.
+    pub fn sized(&mut self, size: u32) -> Result<&'a [u8], EtfFault>
+        requires { size ≤ 4 }
+        ensures ok { IfOk result (λ bytes. (term : ℕ) → (sized size).read term self.old ≡ Ok (bytes.now, self.new)) }
+        ensures err { IfErr result (λ fault. (term : ℕ) → (sized size).read term self.old ≡ Err fault) }
+        ensures len { IfOk result (λ bytes. length bytes.now < 2 ^ 32) }
+    {
+        let length = self.number(size)?;
+        self.take(length as usize)
+    }
+
+    /// The number of parts of the term that begins at an offset, as a number of so many bytes, at most four. Where
+    /// no level is left below the term, `Depth` at the first byte that is not 0.
+    pub fn count(&mut self, size: u32, levels: u32, term: u64) -> Result<u32, EtfFault>
+        requires { size ≤ 4 }
+        ensures reads { Reads (count levels size) term self.old self.new result }
+        ensures none { levels ≡ 0 → IfOk result (λ n. n ≡ 0) }
+    {
+        if levels > 0 {
+            return self.number(size);
+        }
+        for _ in 0..size {
+            if self.byte()? != 0 {
+                return Err(EtfFault::Depth(term));
+            }
+        }
+        Ok(0)
+    }
+
+    /// A little-endian magnitude of so many bytes in the integer that begins at an offset. `IntegerRange` at the
+    /// first byte with which it passes `most`.
+    pub fn magnitude(&mut self, size: u32, most: u128, term: u64) -> Result<u128, EtfFault>
+        ensures reads { Reads (magnitude_after most 1 0 size) term self.old self.new result }
+        ensures within { IfOk result (λ m. m ≤ most) }
+    {
+        let mut magnitude = 0;
+        for place in 0..size {
+            let digit = self.byte()?;
+            magnitude = raised(magnitude, digit, place, most).ok_or(EtfFault::IntegerRange(term))?;
+        }
+        Ok(magnitude)
+    }
+}
+
+/// A magnitude with one more byte, which stands at a place, counted from 0 and from the lowest; `None` where that is
+/// more than `most`.
+fn raised(magnitude: u128, digit: u8, place: u32, most: u128) -> Option<u128>
+    requires { magnitude ≤ most }
+    ensures { MatchOption result (most < magnitude + 256 ^ place * digit) (λ m. (m ≡ magnitude + 256 ^ place * digit) × (m ≤ most)) }
+{
+    if digit == 0 {
+        return Some(magnitude);
+    }
+    if place >= 16 {
+        return None;
+    }
+    let part = 256u128.pow(place) * u128::from(digit);
+    if part <= most - magnitude {
+        Some(magnitude + part)
+    } else {
+        None
     }
 }

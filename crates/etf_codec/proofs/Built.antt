@@ -1,0 +1,58 @@
+-- Terms that are built within their limits.
+use Rattle.std.proofs.Common.{◌≡◌, ℕ, zero, suc, ◌<◌, ◌≤◌, ◌^◌, pos, true, List, [], ◌∷◌, map, length, Result, Ok, Err, nat_lt, nat_le, sym, refl, ap, ◌∙◌, arith}
+use Rattle.std.specs.Prelude.{IfOk, IfErr}
+use Rattle.std.proofs.lemmas.List.{length-map}
+use Rattle.std.proofs.lemmas.Bool.Decides.{nat_tests}
+use Rattle.dets_term.specs.TermValue.{TermValue, integer, nil, chain, depth}
+use Rattle.dets_term.specs.IsTerm.{built}
+use Rattle.dets_term.specs.Parts.{deepest, parts_depth-chain}
+use Rattle.etf_codec.specs.Layout.{integers}
+use Rattle.etf_codec.specs.ReadTerms.{IsLeaf}
+
+-- within the limits it is the term itself
+pub built_within : (parts : ℕ) (t : TermValue) → parts < 2 ^ 32 → depth t ≤ 256 → built parts t ≡ Ok t
+built_within parts t few shallow =
+    let first : nat_lt parts (2 ^ 32) ≡ true = grind (arith, nat_tests) in
+    let second : nat_le (depth t) 256 ≡ true = grind (arith, nat_tests) in
+    rw (first, second) refl
+
+-- what is Ok is no fault
+pub IfErr-ok : {A E : Type 0} (r : Result A E) (x : A) (P : E → Type 0) → r ≡ Ok x → IfErr r P
+IfErr-ok (Ok y) x P e = tt
+IfErr-ok (Err fault) x P e = cc
+
+deepest-integers : (bytes : List ℕ) → deepest (map (λ x. integer (pos x)) bytes) ≤ 1
+deepest-integers [] = omega arith
+deepest-integers (x ∷ bytes) = omega (arith, deepest-integers bytes)
+
+-- the list of some bytes has at most two levels, and the empty one has one
+pub depth-integers : (bytes : List ℕ) → depth (integers bytes) ≤ 2
+depth-integers bytes = omega (arith, deepest-integers bytes, parts_depth-chain (map (λ x. integer (pos x)) bytes))
+
+pub depth-integers_none : (bytes : List ℕ) → length bytes ≡ 0 → depth (integers bytes) ≤ 1
+depth-integers_none [] h = omega arith
+depth-integers_none (x ∷ bytes) h = absurd (omega arith)
+
+pub built_integers : (parts : List TermValue) (bytes : List ℕ) → parts ≡ map (λ x. integer (pos x)) bytes → length bytes < 2 ^ 32
+    → built (length parts) (chain parts nil) ≡ Ok (integers bytes)
+built_integers parts bytes e short =
+    ap (λ ts. built (length ts) (chain ts nil)) e
+    ∙ built_within (length (map (λ x. integer (pos x)) bytes)) (integers bytes) (rw length-map short) (omega (arith, depth-integers bytes))
+
+-- what was handed on is what was made
+pub IfOk-made : {A E F : Type 0} (r : Result A E) (made : Result A F) (x : A) → IfOk r (λ t. made ≡ Ok t) → made ≡ Ok x → IfOk r (λ t. t ≡ x)
+IfOk-made (Ok t) made x ok e = let same : Ok t ≡ Ok x = sym ok ∙ e in cc
+IfOk-made (Err fault) made x ok e = tt
+
+-- where no level is left for bytes there is none
+pub depth-integers_levels : (bytes : List ℕ) (levels : ℕ) → (levels ≡ 0 → length bytes ≡ 0) → depth (integers bytes) ≤ suc levels
+depth-integers_levels bytes zero h = omega (arith, depth-integers_none bytes (h refl))
+depth-integers_levels bytes (suc levels) h = omega (arith, depth-integers bytes)
+
+pub IfOk-shallow : {E : Type 0} (r : Result TermValue E) (value : TermValue) (n : ℕ) → IfOk r (λ t. t ≡ value) → depth value ≤ n → IfOk r (λ t. depth t ≤ n)
+IfOk-shallow (Ok t) value n ok h = omega (arith, h, ap depth ok)
+IfOk-shallow (Err fault) value n ok h = tt
+
+pub IfOk-leaf : {E : Type 0} (r : Result TermValue E) (n : ℕ) → IfOk r IsLeaf → IfOk r (λ t. depth t ≤ suc n)
+IfOk-leaf (Ok t) n leaf = omega (arith, leaf.0)
+IfOk-leaf (Err fault) n leaf = tt

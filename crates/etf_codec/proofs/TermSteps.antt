@@ -1,0 +1,98 @@
+-- Terms with parts, as formats read them.
+use Rattle.std.proofs.Common.{◌≡◌, ◌≢◌, ℕ, zero, suc, ◌-◌, ◌<◌, ◌≤◌, ◌^◌, ◌⊎◌, max, Bool, true, false, cond, ◌==◌, List, [], ◌∷◌, length, Result, Ok, Err, refl, ap, sym, ◌∙◌, inl, inr, arith}
+use Rattle.std.specs.Prelude.{IfOk, IfErr}
+use Rattle.std.proofs.lemmas.Bool.Decides.{nat_tests}
+use Rattle.dets_term.specs.TermValue.{TermValue, tuple, nil, chain, elements, is_list, parts_depth, depth}
+use Rattle.dets_term.specs.IsTerm.{built}
+use Rattle.dets_term.specs.Parts.{deepest, parts_depth-chain}
+use Rattle.etf_codec.specs.declared.fault.EtfFault.{EtfFault}
+use Rattle.etf_codec.specs.Format.{Place, Reading, byte, go_on, changed, either}
+use Rattle.etf_codec.specs.ReadTerms.{body_of}
+use Rattle.etf_codec.specs.Spelling.{count, list_of, no_tail, term_with, part_at, tail_at}
+use Rattle.etf_codec.proofs.Bytes.{go_on_ok, go_on_err, test_passes, test_fails}
+use Rattle.etf_codec.proofs.Built.{built_within}
+
+-- ---- a term by its tag
+
+-- a tag that may stand here
+pub term_step : (test : ℕ → Bool) (fault : ℕ → ℕ → EtfFault) (levels tag term : ℕ) (place next : Place) → 0 < levels → byte.read place.offset place ≡ Ok (tag, next) → test tag ≡ true
+    → (term_with test fault levels).read term place ≡ (body_of (levels - 1) tag).read place.offset next
+unfolding body_of
+term_step test fault zero tag term place next h e t = absurd (omega arith)
+term_step test fault (suc levels) tag term place next h e t =
+    go_on_ok _ _ _ _ (test_passes _ tag next test (fault place.offset) e t) ∙ ap (λ n. (body_of n tag).read place.offset next) (omega arith)
+
+-- one that may not
+pub term_refused : (test : ℕ → Bool) (fault : ℕ → ℕ → EtfFault) (levels tag term : ℕ) (place next : Place) → 0 < levels → byte.read place.offset place ≡ Ok (tag, next) → test tag ≡ false
+    → (term_with test fault levels).read term place ≡ Err (fault place.offset tag)
+term_refused test fault zero tag term place next h e t = absurd (omega arith)
+term_refused test fault (suc levels) tag term place next h e t = go_on_err _ _ _ (test_fails _ tag next test (fault place.offset) e t)
+
+-- none
+pub term_fails : (test : ℕ → Bool) (fault : ℕ → ℕ → EtfFault) (levels term : ℕ) (place : Place) (f : EtfFault) → 0 < levels → byte.read place.offset place ≡ Err f
+    → (term_with test fault levels).read term place ≡ Err f
+term_fails test fault zero term place f h e = absurd (omega arith)
+term_fails test fault (suc levels) term place f h e = go_on_err _ _ _ (go_on_err _ _ _ e)
+
+-- ---- lists
+
+again : {A : Type 0} (r : Reading A) → go_on r (λ x place. Ok (x, place)) ≡ r
+again (Ok x) = refl
+again (Err fault) = refl
+
+-- without elements
+pub list_none : (levels term n : ℕ) (place next : Place) → (count levels 4).read term place ≡ Ok (n, next) → n ≡ 0
+    → (list_of (part_at levels) (tail_at levels) levels).read term place ≡ no_tail.read term next
+list_none levels term n place next e none =
+    go_on_ok _ _ _ _ (e ∙ ap (λ k. Ok (k, next)) none) ∙ again (no_tail.read term next)
+
+-- with elements it ends in its tail
+pub list_tail : (levels term n : ℕ) (place : Place) (ts : List TermValue) → n ≢ 0
+    → (changed (either (n == 0) no_tail (tail_at levels)) (λ end. chain ts end)).read term place ≡ (changed (tail_at levels) (λ end. chain ts end)).read term place
+list_tail levels term n place ts some =
+    let apart : (n == 0) ≡ false = grind (arith, nat_tests) in
+    ap (λ b. (changed (either b no_tail (tail_at levels)) (λ end. chain ts end)).read term place) apart
+
+below : (b : Bool) (n : ℕ) → cond b n (suc n) ≤ suc n
+below true n = omega arith
+below false n = omega arith
+
+depth-list : (ts : List TermValue) (tail : TermValue) → parts_depth (chain ts tail) ≤ max (deepest ts) (depth tail)
+depth-list [] tail = omega arith
+depth-list (t ∷ []) tail = omega (arith, below (is_list tail) (parts_depth tail))
+depth-list (t ∷ u ∷ ts) tail = omega (arith, depth-list (u ∷ ts) tail)
+
+pub depth-list_of : (ts : List TermValue) (tail : TermValue) (levels : ℕ) → deepest ts ≤ levels → depth tail ≤ levels → depth (chain ts tail) ≤ suc levels
+depth-list_of ts tail levels h k = omega (arith, depth-list ts tail, h, k)
+
+pub length-list_of : (ts : List TermValue) (tail : TermValue) → elements tail ≡ [] → length (elements (chain ts tail)) ≡ length ts
+length-list_of [] tail alone = ap length alone
+length-list_of (t ∷ ts) tail alone = ap suc (length-list_of ts tail alone)
+
+pub built_list : (ts : List TermValue) (tail : TermValue) (levels : ℕ) → levels < 256 → length ts < 2 ^ 32 → elements tail ≡ [] → deepest ts ≤ levels → depth tail ≤ levels
+    → built (length (elements (chain ts tail))) (chain ts tail) ≡ Ok (chain ts tail)
+built_list ts tail levels room few alone h k =
+    built_within (length (elements (chain ts tail))) (chain ts tail) (rw (length-list_of ts tail alone) few) (omega (arith, depth-list_of ts tail levels h k))
+
+-- what answers want of memory or a value
+pub IfErr-either : {A E : Type 0} (r : Result A E) (e : E) (x : A) → (r ≡ Err e) ⊎ (r ≡ Ok x) → IfErr r (λ f. f ≡ e)
+IfErr-either (Ok y) e x h = tt
+IfErr-either (Err f) e x (inl h) = cc
+IfErr-either (Err f) e x (inr h) = cc
+
+pub IfOk-either : {A E F : Type 0} (r : Result A E) (made : Result A F) (f : F) (x : A) → IfOk r (λ t. made ≡ Ok t) → (made ≡ Err f) ⊎ (made ≡ Ok x) → IfOk r (λ t. t ≡ x)
+IfOk-either (Ok t) made f x ok (inl h) = let both : Ok t ≡ Err f = sym ok ∙ h in cc
+IfOk-either (Ok t) made f x ok (inr h) = let both : Ok t ≡ Ok x = sym ok ∙ h in cc
+IfOk-either (Err e) made f x ok h = tt
+
+pub or_else : {A B C : Type 0} → (B → C) → A ⊎ B → A ⊎ C
+or_else f (inl a) = inl a
+or_else f (inr b) = inr (f b)
+
+-- ---- tuples
+
+pub depth-tuple_of : (ts : List TermValue) (levels : ℕ) → deepest ts ≤ levels → depth (tuple (chain ts nil)) ≤ suc levels
+depth-tuple_of ts levels h = omega (arith, h, parts_depth-chain ts)
+
+pub built_tuple : (ts : List TermValue) (levels : ℕ) → levels < 256 → length ts < 2 ^ 32 → deepest ts ≤ levels → built (length ts) (tuple (chain ts nil)) ≡ Ok (tuple (chain ts nil))
+built_tuple ts levels room few h = built_within (length ts) (tuple (chain ts nil)) few (omega (arith, depth-tuple_of ts levels h))

@@ -1,0 +1,15 @@
+use Rattle.dets_term.specs.TermValue.{integer}
+use Rattle.etf_codec.specs.Format.{changed}
+use Rattle.etf_codec.specs.Layout.{signed_32}
+use Rattle.etf_codec.specs.Spelling.{number}
+use Rattle.etf_codec.proofs.Bytes.{go_on_ok, go_on_err}
+use Rattle.etf_codec.proofs.HandedOn.{int_value}
+use Rattle.etf_codec.proofs.Reading.{reads_fault}
+use Rattle.etf_codec.proofs.numbers.integer_32.Goals as goal
+
+pub returns-in_err-value-clause-reads : goal.returns-in_err-value-clause-reads
+returns-in_err-value-clause-reads c term =
+    reads_fault (changed (number 4) (λ n. integer (signed_32 n))) term c.args.cursor.now c.number.new.self c.from_residual.result _ c.from_residual.ensures.1 (go_on_err _ _ _ (c.in_err-value.ensures term))
+
+pub returns-clause-reads : goal.returns-clause-reads
+returns-clause-reads c term = rw (int_value c.int.result _ _ (record { sfits = c.from_signed_32.type_inv }) c.int.ensures c.from_signed_32.ensures) (go_on_ok _ _ _ _ (c.in_ok-value.ensures term))

@@ -1,0 +1,65 @@
+ghost use Rattle.std.specs.Prelude.{◌≡◌, ◌≤◌, ◌<◌, ◌⊎◌, true, false, length, IfOk, IfErr};
+ghost use Rattle.std.specs.Str.{chars};
+ghost use Rattle.dets_term.specs.TermValue.{atom};
+ghost use Rattle.etf_codec.specs.Reads.{ReadsWithin};
+ghost use Rattle.etf_codec.specs.ReadTerms.{IsLeaf, IsAtomOf};
+ghost use Rattle.etf_codec.specs.Spelling.{name};
+
+use crate::EtfFault;
+use crate::cursor::Cursor;
+use bstr::ByteSlice;
+use dets_term::{Term, TermFault, Text};
+use std::alloc::Global;
+
+/// The atom that begins at an offset, in UTF-8 or else in Latin-1, behind its length in so many bytes, at most four.
+pub(crate) fn read_atom(
+    alloc: Global,
+    cursor: &mut Cursor<'_>,
+    utf8: bool,
+    size: u32,
+    term: u64,
+) -> Result<Term, EtfFault>
+    requires { size ≤ 4 }
+    ensures reads { ReadsWithin (name utf8 size) term cursor.old cursor.new result }
+    ensures leaf { IfOk result IsLeaf }
+{
+    let bytes = cursor.sized(size)?;
+    if utf8 {
+        utf8_atom(alloc, bytes, term)
+    } else {
+        latin_1_atom(alloc, bytes, term)
+    }
+}
+
+/// The atom of these characters in UTF-8.
+fn utf8_atom(alloc: Global, bytes: &[u8], term: u64) -> Result<Term, EtfFault>
+    ensures { IsAtomOf true bytes.now term result }
+{
+    match bytes.to_str() {
+        Ok(text) => named(alloc, text, term),
+        Err(_) => Err(EtfFault::BadAtom(term)),
+    }
+}
+
+/// The atom of these characters in Latin-1.
+fn latin_1_atom(alloc: Global, bytes: &[u8], term: u64) -> Result<Term, EtfFault>
+    ensures { IsAtomOf false bytes.now term result }
+{
+    let mut text = Text::new(alloc);
+    for byte in bytes {
+        text.push(char::from(*byte))?;
+    }
+    named(alloc, text.as_str(), term)
+}
+
+/// The atom of a text, `BadAtom` above 255 characters.
+fn named(alloc: Global, text: &str, term: u64) -> Result<Term, EtfFault>
+    ensures ok { IfOk result (λ t. (length (chars text.now) ≤ 255) × (t ≡ atom (chars text.now))) }
+    ensures err { IfErr result (λ fault. (fault ≡ EtfFault.Memory) ⊎ ((255 < length (chars text.now)) × (fault ≡ EtfFault.BadAtom term))) }
+{
+    match Term::atom(alloc, text) {
+        Ok(t) => Ok(t),
+        Err(TermFault::LongAtom) => Err(EtfFault::BadAtom(term)),
+        Err(_) => Err(EtfFault::Memory),
+    }
+}

@@ -1,0 +1,64 @@
+//! Decoding of spellings.
+ghost use Rattle.std.specs.Prelude.{◌≡◌, ℕ, ◌==◌, cond};
+ghost use Rattle.etf_codec.specs.Decoding.{IsDecoding};
+ghost use Rattle.etf_codec.specs.Reads.{ReadsWithin};
+ghost use Rattle.etf_codec.specs.Spelling.{outermost, spelling};
+
+use crate::EtfFault;
+use crate::cursor::Cursor;
+use crate::terms::{is_known_tag, read_body};
+use dets_term::Term;
+use std::alloc::Global;
+
+/// How many levels are left below the first term.
+const LEVELS: u32 = 255;
+
+/// The term that stands in front of some bytes, and how many bytes spell it. Bytes behind them are not looked at.
+///
+/// `Short` where the bytes end before the term does and break no rule; else the fault of the first byte that breaks a
+/// rule. The room that is taken is bounded by the bytes that are there, whatever number they claim.
+pub fn decode(alloc: Global, bytes: &[u8]) -> Result<(Term, usize), EtfFault>
+    ensures { IsDecoding bytes.now result }
+{
+    let mut cursor = Cursor::new(bytes);
+    let term = read_spelling(alloc, &mut cursor)?;
+    Ok((term, cursor.offset() as usize))
+}
+
+/// The byte 131 and a term.
+fn read_spelling(alloc: Global, cursor: &mut Cursor<'_>) -> Result<Term, EtfFault>
+    ensures { ReadsWithin spelling cursor.old.offset cursor.old cursor.new result }
+{
+    let start = cursor.offset();
+    let version = cursor.byte()?;
+    if version != 131 {
+        return Err(EtfFault::NotVersion(start));
+    }
+    read_outermost(alloc, cursor)
+}
+
+/// The first term.
+fn read_outermost(alloc: Global, cursor: &mut Cursor<'_>) -> Result<Term, EtfFault>
+    ensures { (term : ℕ) → ReadsWithin outermost term cursor.old cursor.new result }
+{
+    let start = cursor.offset();
+    let tag = cursor.byte()?;
+    if !is_known_tag(tag) {
+        return Err(unknown_tag(start, tag));
+    }
+    read_body(alloc, cursor, tag, LEVELS, start)
+}
+
+/// The fault of a tag that no first term begins with: 80 begins a compressed one.
+fn unknown_tag(start: u64, tag: u8) -> EtfFault
+    ensures { result ≡ cond (tag == 80) (EtfFault.Compressed start) (EtfFault.Unsupported start tag) }
+{
+    if tag == 80 {
+        EtfFault::Compressed(start)
+    } else {
+        EtfFault::Unsupported(start, tag)
+    }
+}
+
+#[cfg(test)]
+mod tests;
