@@ -21,7 +21,7 @@ pub mod Built
 pub mod Bodies
 pub mod Collecting
 pub mod PairOrder
-pub mod Entries
+pub mod SortedPairs
 pub mod TermSteps
 pub mod PairsRead
 pub mod Decodings

@@ -12,8 +12,6 @@ pub mod Layout
 pub mod Spelling
 pub mod Reads
 pub mod ReadTerms
-pub mod KeyOrder
-pub mod Keyed
 pub mod Canonical
 pub mod Fronts
 pub mod Moved

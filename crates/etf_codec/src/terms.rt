@@ -12,9 +12,8 @@ ghost use Rattle.etf_codec.specs.Spelling.{tuple_of, list_of, map_format, pairs_
 use crate::EtfFault;
 use crate::building::only_memory;
 use crate::cursor::Cursor;
-use crate::key::Key;
-use crate::keyed::KeyedPairs;
 use crate::leaves::{read_leaf, read_no_tail};
+use crate::map_pairs::MapPairs;
 use crate::strings::read_string;
 use dets_term::{PairList, Term, TermList};
 use std::alloc::Global;
@@ -176,12 +175,11 @@ fn read_pairs(
     ensures len { IfOk result (λ pairs. length pairs ≡ count) }
     ensures shallow { IfOk result (λ pairs. deepest_of_pairs pairs ≤ levels) }
 {
-    let mut pairs = KeyedPairs::new(alloc);
+    let mut pairs = MapPairs::new(alloc);
     for _ in 0..count {
         let start = cursor.offset();
-        let term = read_part(alloc, cursor, levels)?;
-        let key = Key { term };
-        if pairs.has(&key) {
+        let key = read_part(alloc, cursor, levels)?;
+        if pairs.has_key(&key) {
             return Err(EtfFault::RepeatedKey(start));
         }
         let value = read_part(alloc, cursor, levels)?;

@@ -170,40 +170,40 @@ read_parts-loop-preserved t c =
           ∙ ap (λ n. behind c.push.new.self ((times n (part_at c.args.levels)).read term c.read_part.new.cursor)) (omega arith),
     )
 
-pub read_pairs-returns-in_err-term-clause-reads : goal.read_pairs-returns-in_err-term-clause-reads
-read_pairs-returns-in_err-term-clause-reads t c term =
+pub read_pairs-returns-in_err-key-clause-reads : goal.read_pairs-returns-in_err-key-clause-reads
+read_pairs-returns-in_err-key-clause-reads t c term =
     within_rest (pairs_after (part_at c.args.levels) [] c.args.count) term c.args.cursor.now c.read_part.new.cursor c.from_residual.result _ c.from_residual.ensures.1
     (or_else (λ e. (no_key c.args.count c.args.levels term c.args.cursor.now c.loop.cursor c.loop.pairs c.loop.counter _ c.loop.invariant (omega arith) e))
-    (c.in_err-term.ensures.reads c.loop.cursor.offset))
+    (c.in_err-key.ensures.reads c.loop.cursor.offset))
 
-pub read_pairs-returns-then-has-clause-reads : goal.read_pairs-returns-then-has-clause-reads
-read_pairs-returns-then-has-clause-reads t c term =
-    inr ((key_again c.args.count c.args.levels term c.args.cursor.now c.loop.cursor c.read_part.new.cursor c.loop.pairs c.loop.counter c.in_ok-term.term
-    c.loop.invariant (omega arith) c.in_ok-term.ensures.reads (sym c.if-has.ensures))
+pub read_pairs-returns-then-has_key-clause-reads : goal.read_pairs-returns-then-has_key-clause-reads
+read_pairs-returns-then-has_key-clause-reads t c term =
+    inr ((key_again c.args.count c.args.levels term c.args.cursor.now c.loop.cursor c.read_part.new.cursor c.loop.pairs c.loop.counter c.in_ok-key.key
+    c.loop.invariant (omega arith) c.in_ok-key.ensures.reads (sym c.if-has_key.ensures))
     ∙ ap (λ at. Err (RepeatedKey at)) (sym c.offset-start.ensures))
 
 pub read_pairs-returns-in_err-value-clause-reads : goal.read_pairs-returns-in_err-value-clause-reads
 read_pairs-returns-in_err-value-clause-reads t c term =
     within_rest (pairs_after (part_at c.args.levels) [] c.args.count) term c.args.cursor.now c.read_part-in-loop.new.cursor c.from_residual-in_err-value.result _
     c.from_residual-in_err-value.ensures.1
-    (or_else (λ e. (no_value c.args.count c.args.levels term c.args.cursor.now c.loop.cursor c.read_part.new.cursor c.loop.pairs c.loop.counter c.in_ok-term.term _
-    c.loop.invariant (omega arith) c.in_ok-term.ensures.reads (sym c.if-has.ensures) e))
+    (or_else (λ e. (no_value c.args.count c.args.levels term c.args.cursor.now c.loop.cursor c.read_part.new.cursor c.loop.pairs c.loop.counter c.in_ok-key.key _
+    c.loop.invariant (omega arith) c.in_ok-key.ensures.reads (sym c.if-has_key.ensures) e))
     (c.in_err-value.ensures.reads term))
 
 pub read_pairs-loop-preserved : goal.read_pairs-loop-preserved
 read_pairs-loop-preserved t c =
-    subst (λ (ps : List (TermValue × TermValue)). PairsSoFar c.args.count c.args.levels c.args.cursor.now c.read_part-in-loop.new.cursor ps (c.loop.counter + 1)) (sym c.in_ok-insert.ensures)
-    (one_more c.args.count c.args.levels c.args.cursor.now c.loop.cursor c.read_part.new.cursor c.read_part-in-loop.new.cursor c.loop.pairs c.loop.counter c.in_ok-term.term c.in_ok-value.value
-    c.loop.invariant (omega arith) c.in_ok-term.ensures.reads (sym c.if-has.ensures) c.in_ok-value.ensures.reads c.in_ok-term.ensures.shallow c.in_ok-value.ensures.shallow)
+    subst (λ (ps : List (TermValue × TermValue)). PairsSoFar c.args.count c.args.levels c.args.cursor.now c.read_part-in-loop.new.cursor ps (c.loop.counter + 1)) (sym c.in_ok-insert.ensures.ok)
+    (one_more c.args.count c.args.levels c.args.cursor.now c.loop.cursor c.read_part.new.cursor c.read_part-in-loop.new.cursor c.loop.pairs c.loop.counter c.in_ok-key.key c.in_ok-value.value
+    c.loop.invariant (omega arith) c.in_ok-key.ensures.reads (sym c.if-has_key.ensures) c.in_ok-value.ensures.reads c.in_ok-key.ensures.shallow c.in_ok-value.ensures.shallow)
 
 pub read_pairs-returns-clause-apart : goal.read_pairs-returns-clause-apart
-read_pairs-returns-clause-apart t c = ap (λ ps. repeats (keys ps)) c.in_ok-into_pairs.ensures ∙ c.loop.invariant.apart
+read_pairs-returns-clause-apart t c = ap (λ ps. repeats (keys ps)) c.in_ok-into_pairs.ensures.pairs ∙ c.loop.invariant.apart
 
 pub read_pairs-returns-clause-in_order : goal.read_pairs-returns-clause-in_order
-read_pairs-returns-clause-in_order t c = ap by_key c.in_ok-into_pairs.ensures ∙ c.loop.invariant.in_order ∙ sym c.in_ok-into_pairs.ensures
+read_pairs-returns-clause-in_order t c = ap by_key c.in_ok-into_pairs.ensures.pairs ∙ c.loop.invariant.in_order ∙ sym c.in_ok-into_pairs.ensures.pairs
 
 pub read_pairs-returns-clause-len : goal.read_pairs-returns-clause-len
-read_pairs-returns-clause-len t c = ap length c.in_ok-into_pairs.ensures ∙ omega (arith, c.loop.invariant.len)
+read_pairs-returns-clause-len t c = ap length c.in_ok-into_pairs.ensures.pairs ∙ omega (arith, c.loop.invariant.len)
 
 pub read_pairs-returns-clause-shallow : goal.read_pairs-returns-clause-shallow
-read_pairs-returns-clause-shallow t c = omega (arith, ap deepest_of_pairs c.in_ok-into_pairs.ensures, c.loop.invariant.shallow)
+read_pairs-returns-clause-shallow t c = omega (arith, ap deepest_of_pairs c.in_ok-into_pairs.ensures.pairs, c.loop.invariant.shallow)

@@ -1,0 +1,13 @@
+use Rattle.std.proofs.Common.{◌∙◌, ap, subst, sym, ◌≡◌, false}
+use Rattle.std.specs.List.{list_any}
+use Rattle.dets_term.specs.Order.{is_same}
+use Rattle.dets_term.specs.Pairs.{keys, placed}
+use Rattle.etf_codec.proofs.SortedPairs.{insert_entry-placed}
+use Rattle.etf_codec.proofs.map_pairs.MapPairs.insert.Goals as goal
+
+pub returns-in-Ok-clause-ok : goal.returns-in-Ok-clause-ok
+returns-in-Ok-clause-ok c =
+    c.in-Ok.ensures.entries
+    ∙ insert_entry-placed c.args.key c.args.value c.self.inside.sorted.entries
+    (subst (λ es. list_any (is_same c.args.key) (keys es) ≡ false) (sym c.self.view_is) c.requires)
+    ∙ ap (placed (c.args.key, c.args.value)) c.self.view_is
