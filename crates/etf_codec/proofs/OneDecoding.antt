@@ -1,5 +1,5 @@
 -- What bytes decode to is settled by reading them.
-use Rattle.std.proofs.Common.{◌≡◌, ◌≢◌, ℕ, ◌+◌, ◌≤◌, List, ◌∷◌, ◌++◌, length, take, drop, Result, Ok, Err, refl, ap, sym, ◌∙◌, arith}
+use Rattle.std.proofs.Common.{◌≡◌, ◌≢◌, ℕ, List, ◌∷◌, ◌++◌, length, take, drop, Result, Ok, Err, refl, ap, sym, ◌∙◌, arith}
 use Rattle.std.proofs.lemmas.List.{take-append-drop, length-take-le}
 use Rattle.dets_term.specs.IsTerm.{IsTerm}
 use Rattle.dets_term.specs.TermValue.{TermValue}
@@ -8,7 +8,7 @@ use Rattle.etf_codec.specs.declared.fault.EtfFault.TheVariants.{Short, NotVersio
 use Rattle.etf_codec.specs.Canonical.{canonical}
 use Rattle.etf_codec.specs.Decoding.{IsDecoding}
 use Rattle.etf_codec.specs.Exact.{Begins}
-use Rattle.etf_codec.specs.Format.{Place, Reading}
+use Rattle.etf_codec.specs.Format.{Reading}
 use Rattle.etf_codec.specs.Spelling.{spelling, Spells, IsBreak}
 use Rattle.etf_codec.proofs.CanonicalSpells.{canonical_spells}
 use Rattle.etf_codec.proofs.SpellingExact.{spelling-exact}

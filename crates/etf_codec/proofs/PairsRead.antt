@@ -1,6 +1,5 @@
 -- Pairs of a map that are read one after another.
-use Rattle.std.proofs.Common.{◌≡◌, ℕ, zero, suc, ◌+◌, ◌-◌, ◌<◌, ◌≤◌, true, false, not, List, [], ◌∷◌, ◌++◌, length, Ok, Err, refl, ap, sym, ◌∙◌, arith}
-use Rattle.std.proofs.lemmas.List.{length-append}
+use Rattle.std.proofs.Common.{◌≡◌, ℕ, zero, suc, ◌+◌, ◌-◌, ◌<◌, ◌≤◌, true, false, not, List, [], length, Ok, Err, ap, ◌∙◌, arith}
 use Rattle.std.specs.List.{list_any}
 use Rattle.dets_term.specs.TermValue.{TermValue, depth}
 use Rattle.dets_term.specs.Order.{is_same}
@@ -8,7 +7,7 @@ use Rattle.dets_term.specs.Pairs.{keys, placed, by_key, repeats}
 use Rattle.dets_term.specs.Parts.{deepest_of_pairs}
 use Rattle.etf_codec.specs.declared.fault.EtfFault.{EtfFault}
 use Rattle.etf_codec.specs.declared.fault.EtfFault.TheVariants.{RepeatedKey}
-use Rattle.etf_codec.specs.Format.{Place, Format, go_on, changed}
+use Rattle.etf_codec.specs.Format.{Place, Format, go_on}
 use Rattle.etf_codec.specs.Spelling.{pairs_after, part_at}
 use Rattle.etf_codec.proofs.Bytes.{go_on_ok, go_on_err, test_passes, test_fails}
 use Rattle.etf_codec.proofs.PairOrder.{by_key-placed, repeats-placed, length-placed, deepest-placed}
