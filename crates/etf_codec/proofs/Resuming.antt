@@ -5,11 +5,14 @@ use Rattle.std.specs.List.{list_any}
 use Rattle.dets_term.specs.TermValue.{TermValue, tuple, nil, chain, map_of}
 use Rattle.dets_term.specs.Order.{is_same}
 use Rattle.dets_term.specs.Pairs.{keys, placed}
+use Rattle.etf_codec.specs.declared.fault.EtfFault.{EtfFault}
 use Rattle.etf_codec.specs.declared.fault.EtfFault.TheVariants.{Unsupported, RepeatedKey}
-use Rattle.etf_codec.specs.Format.{Place, Reading, go_on, followed, changed, times, judged}
+use Rattle.etf_codec.specs.declared.frame.Begun.{Begun}
+use Rattle.etf_codec.specs.declared.frame.Frame.TheVariants.{Element, Item, Tail, Key, Value}
+use Rattle.etf_codec.specs.Format.{Format, Place, Reading, go_on, followed, changed, times, judged}
 use Rattle.etf_codec.specs.Layout.{is_known, begins_tail}
 use Rattle.etf_codec.specs.Spelling.{part_at, tail_at, pairs_after}
-use Rattle.etf_codec.specs.Machine.{Begun, element, item, tail, key, value, levels_below, map_behind, resume, reading_at}
+use Rattle.etf_codec.specs.Machine.{levels_below, map_behind, rest_of, resume, reading_at}
 use Rattle.etf_codec.proofs.GoOn.{go_on_twice, times-first, times-first-followed, whichever_term}
 
 part_anywhere : (levels s t : ℕ) (place : Place) → (part_at levels).read s place ≡ (part_at levels).read t place
@@ -29,41 +32,41 @@ levels_of begun b = levels_below (b ∷ begun)
 
 -- reading a tuple's elements is reading its first one, with the others to come
 pub element_first : (n start : ℕ) (ts : List TermValue) (begun : List Begun) (place : Place)
-    → go_on ((changed (times (suc n) (part_at (levels_below (record { start = start; frame = element n ts } ∷ begun)))) (λ us. tuple (chain (ts ++ us) nil))).read start place) (λ whole behind. resume begun start whole behind)
-    ≡ reading_at (record { start = start; frame = element n ts } ∷ begun) place
+    → go_on ((changed (times (suc n) (part_at (levels_below (record { start = start; frame = Element n ts } ∷ begun)))) (λ us. tuple (chain (ts ++ us) nil))).read start place) (λ whole behind. resume begun start whole behind)
+    ≡ reading_at (record { start = start; frame = Element n ts } ∷ begun) place
 element_first n start ts begun place =
-    let levels = levels_below (record { start = start; frame = element n ts } ∷ begun) in
+    let levels = levels_below (record { start = start; frame = Element n ts } ∷ begun) in
     times-first (part_at levels) n (λ us. tuple (chain (ts ++ us) nil)) start place (λ whole behind. resume begun start whole behind)
-    ∙ ap (λ r. go_on r (λ t b. resume (record { start = start; frame = element n ts } ∷ begun) place.offset t b)) (part_anywhere levels start place.offset place)
+    ∙ ap (λ r. go_on r (λ t b. resume (record { start = start; frame = Element n ts } ∷ begun) place.offset t b)) (part_anywhere levels start place.offset place)
 
 pub element_more : (n start at : ℕ) (ts : List TermValue) (t : TermValue) (begun : List Begun) (place : Place)
-    → resume (record { start = start; frame = element (suc n) ts } ∷ begun) at t place ≡ reading_at (record { start = start; frame = element n (ts ++ t ∷ []) } ∷ begun) place
+    → resume (record { start = start; frame = Element (suc n) ts } ∷ begun) at t place ≡ reading_at (record { start = start; frame = Element n (ts ++ t ∷ []) } ∷ begun) place
 element_more n start at ts t begun place =
-    let levels = levels_below (record { start = start; frame = element n ts } ∷ begun) in
+    let levels = levels_below (record { start = start; frame = Element n ts } ∷ begun) in
     let same : (us : List TermValue) → tuple (chain (ts ++ t ∷ us) nil) ≡ tuple (chain ((ts ++ t ∷ []) ++ us) nil) = λ us. ap (λ vs. tuple (chain vs nil)) (pushed ts t us) in
     ap (λ (f : List TermValue → TermValue). go_on ((changed (times (suc n) (part_at levels)) f).read start place) (λ whole behind. resume begun start whole behind)) (fun_ext same)
     ∙ element_first n start (ts ++ t ∷ []) begun place
 
 pub element_last : (start at : ℕ) (ts : List TermValue) (t : TermValue) (begun : List Begun) (place : Place)
-    → resume (record { start = start; frame = element 0 ts } ∷ begun) at t place ≡ resume begun start (tuple (chain (ts ++ t ∷ []) nil)) place
+    → resume (record { start = start; frame = Element 0 ts } ∷ begun) at t place ≡ resume begun start (tuple (chain (ts ++ t ∷ []) nil)) place
 element_last start at ts t begun place = refl
 
 -- ---- lists
 
 pub item_first : (n start : ℕ) (ts : List TermValue) (begun : List Begun) (place : Place)
-    → go_on ((followed (times (suc n) (part_at (levels_below (record { start = start; frame = item n ts } ∷ begun))))
-    (λ us. changed (tail_at (levels_below (record { start = start; frame = item n ts } ∷ begun))) (λ end. chain (ts ++ us) end))).read start place)
+    → go_on ((followed (times (suc n) (part_at (levels_below (record { start = start; frame = Item n ts } ∷ begun))))
+    (λ us. changed (tail_at (levels_below (record { start = start; frame = Item n ts } ∷ begun))) (λ end. chain (ts ++ us) end))).read start place)
     (λ whole behind. resume begun start whole behind)
-    ≡ reading_at (record { start = start; frame = item n ts } ∷ begun) place
+    ≡ reading_at (record { start = start; frame = Item n ts } ∷ begun) place
 item_first n start ts begun place =
-    let levels = levels_below (record { start = start; frame = item n ts } ∷ begun) in
+    let levels = levels_below (record { start = start; frame = Item n ts } ∷ begun) in
     times-first-followed (part_at levels) n (λ us. changed (tail_at levels) (λ end. chain (ts ++ us) end)) start place (λ whole behind. resume begun start whole behind)
-    ∙ ap (λ r. go_on r (λ t b. resume (record { start = start; frame = item n ts } ∷ begun) place.offset t b)) (part_anywhere levels start place.offset place)
+    ∙ ap (λ r. go_on r (λ t b. resume (record { start = start; frame = Item n ts } ∷ begun) place.offset t b)) (part_anywhere levels start place.offset place)
 
 pub item_more : (n start at : ℕ) (ts : List TermValue) (t : TermValue) (begun : List Begun) (place : Place)
-    → resume (record { start = start; frame = item (suc n) ts } ∷ begun) at t place ≡ reading_at (record { start = start; frame = item n (ts ++ t ∷ []) } ∷ begun) place
+    → resume (record { start = start; frame = Item (suc n) ts } ∷ begun) at t place ≡ reading_at (record { start = start; frame = Item n (ts ++ t ∷ []) } ∷ begun) place
 item_more n start at ts t begun place =
-    let levels = levels_below (record { start = start; frame = item n ts } ∷ begun) in
+    let levels = levels_below (record { start = start; frame = Item n ts } ∷ begun) in
     let same : (us : List TermValue) → (λ (end : TermValue). chain (ts ++ t ∷ us) end) ≡ (λ (end : TermValue). chain ((ts ++ t ∷ []) ++ us) end)
     = λ us. ap (λ vs (end : TermValue). chain vs end) (pushed ts t us) in
     ap (λ (f : List TermValue → TermValue → TermValue). go_on ((followed (times (suc n) (part_at levels)) (λ us. changed (tail_at levels) (f us))).read start place) (λ whole behind. resume begun start whole behind))
@@ -71,29 +74,29 @@ item_more n start at ts t begun place =
     ∙ item_first n start (ts ++ t ∷ []) begun place
 
 pub item_last : (start at : ℕ) (ts : List TermValue) (t : TermValue) (begun : List Begun) (place : Place)
-    → resume (record { start = start; frame = item 0 ts } ∷ begun) at t place ≡ reading_at (record { start = start; frame = tail (ts ++ t ∷ []) } ∷ begun) place
+    → resume (record { start = start; frame = Item 0 ts } ∷ begun) at t place ≡ reading_at (record { start = start; frame = Tail (ts ++ t ∷ []) } ∷ begun) place
 item_last start at ts t begun place =
-    let levels = levels_below (record { start = start; frame = item 0 ts } ∷ begun) in
+    let levels = levels_below (record { start = start; frame = Item 0 ts } ∷ begun) in
     go_on_twice ((tail_at levels).read start place) (λ end b. Ok (chain (ts ++ t ∷ []) end, b)) (λ whole behind. resume begun start whole behind)
     ∙ ap (λ r. go_on r (λ end b. resume begun start (chain (ts ++ t ∷ []) end) b)) (tail_anywhere levels start place.offset place)
 
 pub tail_last : (start at : ℕ) (ts : List TermValue) (t : TermValue) (begun : List Begun) (place : Place)
-    → resume (record { start = start; frame = tail ts } ∷ begun) at t place ≡ resume begun start (chain ts t) place
+    → resume (record { start = start; frame = Tail ts } ∷ begun) at t place ≡ resume begun start (chain ts t) place
 tail_last start at ts t begun place = refl
 
 -- ---- maps
 
 pub key_known : (n start at : ℕ) (pairs : List (TermValue × TermValue)) (k : TermValue) (begun : List Begun) (place : Place) → list_any (is_same k) (keys pairs) ≡ true
-    → resume (record { start = start; frame = key n pairs } ∷ begun) at k place ≡ Err (RepeatedKey at)
+    → resume (record { start = start; frame = Key n pairs } ∷ begun) at k place ≡ Err (RepeatedKey at)
 key_known n start at pairs k begun place e =
-    let levels = levels_below (record { start = start; frame = key n pairs } ∷ begun) in
+    let levels = levels_below (record { start = start; frame = Key n pairs } ∷ begun) in
     ap (λ known. go_on (cond (not known) ((followed (part_at levels) (λ v. map_behind levels (placed (k, v) pairs) n)).read start place) (Err (RepeatedKey at)))
     (λ whole behind. resume begun start whole behind)) e
 
 pub key_new : (n start at : ℕ) (pairs : List (TermValue × TermValue)) (k : TermValue) (begun : List Begun) (place : Place) → list_any (is_same k) (keys pairs) ≡ false
-    → resume (record { start = start; frame = key n pairs } ∷ begun) at k place ≡ reading_at (record { start = start; frame = value n pairs k } ∷ begun) place
+    → resume (record { start = start; frame = Key n pairs } ∷ begun) at k place ≡ reading_at (record { start = start; frame = Value n pairs k } ∷ begun) place
 key_new n start at pairs k begun place e =
-    let levels = levels_below (record { start = start; frame = key n pairs } ∷ begun) in
+    let levels = levels_below (record { start = start; frame = Key n pairs } ∷ begun) in
     ap (λ known. go_on (cond (not known) ((followed (part_at levels) (λ v. map_behind levels (placed (k, v) pairs) n)).read start place) (Err (RepeatedKey at)))
     (λ whole behind. resume begun start whole behind)) e
     ∙ go_on_twice ((part_at levels).read start place) (λ v b. (map_behind levels (placed (k, v) pairs) n).read start b) (λ whole behind. resume begun start whole behind)
@@ -115,16 +118,16 @@ first_key {A} levels n start pairs (Ok r) offset R = by (not (list_any (is_same 
         (go_on_twice ((part_at levels).read start r.1) (λ v b. (pairs_after (part_at levels) (placed (r.0, v) pairs) n).read start b) (λ all b. Ok (map_of all, b)))
 
 pub key_first : (n start : ℕ) (pairs : List (TermValue × TermValue)) (begun : List Begun) (place : Place)
-    → go_on ((map_behind (levels_below (record { start = start; frame = key n pairs } ∷ begun)) pairs (suc n)).read start place) (λ whole behind. resume begun start whole behind)
-    ≡ reading_at (record { start = start; frame = key n pairs } ∷ begun) place
+    → go_on ((map_behind (levels_below (record { start = start; frame = Key n pairs } ∷ begun)) pairs (suc n)).read start place) (λ whole behind. resume begun start whole behind)
+    ≡ reading_at (record { start = start; frame = Key n pairs } ∷ begun) place
 key_first n start pairs begun place =
-    let levels = levels_below (record { start = start; frame = key n pairs } ∷ begun) in
+    let levels = levels_below (record { start = start; frame = Key n pairs } ∷ begun) in
     first_key levels n start pairs ((part_at levels).read place.offset place) place.offset (λ whole behind. resume begun start whole behind)
 
 pub value_more : (n start at : ℕ) (pairs : List (TermValue × TermValue)) (k v : TermValue) (begun : List Begun) (place : Place)
-    → resume (record { start = start; frame = value (suc n) pairs k } ∷ begun) at v place ≡ reading_at (record { start = start; frame = key n (placed (k, v) pairs) } ∷ begun) place
+    → resume (record { start = start; frame = Value (suc n) pairs k } ∷ begun) at v place ≡ reading_at (record { start = start; frame = Key n (placed (k, v) pairs) } ∷ begun) place
 value_more n start at pairs k v begun place = key_first n start (placed (k, v) pairs) begun place
 
 pub value_last : (start at : ℕ) (pairs : List (TermValue × TermValue)) (k v : TermValue) (begun : List Begun) (place : Place)
-    → resume (record { start = start; frame = value 0 pairs k } ∷ begun) at v place ≡ resume begun start (map_of (placed (k, v) pairs)) place
+    → resume (record { start = start; frame = Value 0 pairs k } ∷ begun) at v place ≡ resume begun start (map_of (placed (k, v) pairs)) place
 value_last start at pairs k v begun place = refl

@@ -18,4 +18,6 @@ pub mod Moved
 pub mod Decoding
 pub mod Skipping
 pub mod Machine
+pub mod Begun
+pub mod Joins
 pub mod Answers

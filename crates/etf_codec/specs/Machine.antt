@@ -1,31 +1,16 @@
 -- Reading a term piece by piece: the terms that are begun, the innermost first, and what reading answers behind a part
 -- of the innermost one. This project's own.
-use Rattle.std.specs.Prelude.{ℕ, ◌-◌, cond, not, List, [], ◌∷◌, ◌++◌, length, Ok, Err}
+use Rattle.std.specs.Prelude.{ℕ, suc, ◌-◌, cond, not, Bool, true, false, List, [], ◌∷◌, ◌++◌, length, Ok, Err}
 use Rattle.std.specs.List.{list_any}
 use Rattle.dets_term.specs.TermValue.{TermValue, tuple, nil, chain, map_of}
 use Rattle.dets_term.specs.Order.{is_same}
 use Rattle.dets_term.specs.Pairs.{keys, placed}
 use Rattle.etf_codec.specs.declared.fault.EtfFault.TheVariants.{RepeatedKey}
+use Rattle.etf_codec.specs.declared.frame.Begun.{Begun}
+use Rattle.etf_codec.specs.declared.frame.Frame.{Frame}
+use Rattle.etf_codec.specs.declared.frame.Frame.TheVariants.{Element, Item, Tail, Key, Value}
 use Rattle.etf_codec.specs.Format.{Format, Place, Reading, go_on, followed, changed, times}
 use Rattle.etf_codec.specs.Spelling.{part_at, tail_at, outermost, pairs_after}
-
--- A term that is begun, of which a part is being read: which part, and what stands before it.
-pub data Frame : Type 0 where
-  -- an element of a tuple, with so many to come behind it
-  element : ℕ → List TermValue → Frame
-  -- an element of a list
-  item : ℕ → List TermValue → Frame
-  -- the tail of a list
-  tail : List TermValue → Frame
-  -- a key of a map, with so many pairs to come behind its own
-  key : ℕ → List (TermValue × TermValue) → Frame
-  -- the value of this key
-  value : ℕ → List (TermValue × TermValue) → TermValue → Frame
-
--- a begun term, with the offset of its tag
-pub record Begun : Type 0 where
-  pub start : ℕ
-  pub frame : Frame
 
 -- how many levels are left below the parts of the innermost of these
 abbrev pub levels_below : List Begun → ℕ
@@ -37,15 +22,15 @@ map_behind levels pairs n = changed (pairs_after (part_at levels) pairs n) map_o
 
 -- What reading the rest of a begun term answers, behind its part t that begins at an offset. The parts have so many levels.
 abbrev pub rest_of : Frame → (levels start at : ℕ) → TermValue → Place → Reading TermValue
-rest_of (element n ts) levels start at t place =
+rest_of (Element n ts) levels start at t place =
     (changed (times n (part_at levels)) (λ us. tuple (chain (ts ++ t ∷ us) nil))).read start place
-rest_of (item n ts) levels start at t place =
+rest_of (Item n ts) levels start at t place =
     (followed (times n (part_at levels)) (λ us. changed (tail_at levels) (λ end. chain (ts ++ t ∷ us) end))).read start place
-rest_of (tail ts) levels start at t place = Ok (chain ts t, place)
-rest_of (key n pairs) levels start at k place =
+rest_of (Tail ts) levels start at t place = Ok (chain ts t, place)
+rest_of (Key n pairs) levels start at k place =
     cond (not (list_any (is_same k) (keys pairs)))
     ((followed (part_at levels) (λ v. map_behind levels (placed (k, v) pairs) n)).read start place) (Err (RepeatedKey at))
-rest_of (value n pairs k) levels start at v place = (map_behind levels (placed (k, v) pairs) n).read start place
+rest_of (Value n pairs k) levels start at v place = (map_behind levels (placed (k, v) pairs) n).read start place
 
 -- what reading answers behind a part, that begins at an offset, of the innermost begun term
 abbrev pub resume : List Begun → ℕ → TermValue → Place → Reading TermValue
@@ -55,7 +40,7 @@ resume (b ∷ begun) at t place =
 
 -- the part that comes next
 abbrev pub wanted_by : Frame → ℕ → Format TermValue
-wanted_by (tail ts) levels = tail_at levels
+wanted_by (Tail ts) levels = tail_at levels
 wanted_by other levels = part_at levels
 
 abbrev pub wanted : List Begun → Format TermValue

@@ -20,6 +20,8 @@ pub mod decoding_laws;
 mod encoding;
 pub mod encoding_laws;
 mod fault;
+mod frame;
+mod joining;
 pub mod laws;
 mod leaves;
 mod map_pairs;
