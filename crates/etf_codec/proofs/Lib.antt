@@ -32,6 +32,7 @@ pub mod SkippingKept
 pub mod SkippingExact
 pub mod GoOn
 pub mod Resuming
+pub mod JoinSteps
 pub mod Passing
 pub mod Answering
 pub mod Beginnings

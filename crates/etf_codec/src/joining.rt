@@ -47,7 +47,8 @@ fn join_element(start: u64, ahead: u32, parts: TermList, at: u64, part: Term) ->
     let mut parts = parts;
     parts.push(part)?;
     if ahead == 0 {
-        return Ok(Joined::Whole(start, only_memory(Term::tuple(parts))?));
+        let tuple = only_memory(Term::tuple(parts))?;
+        return Ok(Joined::Whole(start, tuple));
     }
     let frame = Frame::Element(ahead - 1, parts);
     Ok(Joined::Open(Begun { start, frame }))
@@ -60,11 +61,11 @@ fn join_item(start: u64, ahead: u32, parts: TermList, at: u64, part: Term) -> Re
 {
     let mut parts = parts;
     parts.push(part)?;
-    let frame = if ahead == 0 {
-        Frame::Tail(parts)
-    } else {
-        Frame::Item(ahead - 1, parts)
-    };
+    if ahead == 0 {
+        let frame = Frame::Tail(parts);
+        return Ok(Joined::Open(Begun { start, frame }));
+    }
+    let frame = Frame::Item(ahead - 1, parts);
     Ok(Joined::Open(Begun { start, frame }))
 }
 
@@ -102,7 +103,8 @@ fn join_value(alloc: Global, start: u64, ahead: u32, pairs: MapPairs, key: Term,
     pairs.insert(key, value)?;
     if ahead == 0 {
         let pairs = pairs.into_pairs(alloc)?;
-        return Ok(Joined::Whole(start, only_memory(Term::map(pairs))?));
+        let map = only_memory(Term::map(pairs))?;
+        return Ok(Joined::Whole(start, map));
     }
     let frame = Frame::Key(ahead - 1, pairs);
     Ok(Joined::Open(Begun { start, frame }))

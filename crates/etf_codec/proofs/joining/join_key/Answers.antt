@@ -1,0 +1,8 @@
+use Rattle.std.proofs.Common.{sym, ap, ◌∙◌}
+use Rattle.etf_codec.proofs.Resuming.{key_new, key_known}
+use Rattle.etf_codec.proofs.JoinSteps.{may_begin_value}
+use Rattle.etf_codec.proofs.joining.join_key.Goals as goal
+
+pub returns-clause-joins : goal.returns-clause-joins
+returns-clause-joins c begun place =
+    key_new c.args.ahead c.args.start c.args.at c.args.pairs c.args.key begun place (sym c.if-has_key.ensures)
