@@ -27,8 +27,8 @@ pub(crate) fn join(alloc: Global, begun: Begun, at: u64, part: Term) -> Result<J
     ensures joins { JoinsTo begun at part result }
     ensures within { (levels : ℕ) → levels ≤ 255 → FrameFits begun.frame levels → PartFits begun.frame levels part → JoinsWithin begun levels result }
 {
-    let start = begun.start;
-    match begun.frame {
+    let Begun { start, frame } = begun;
+    match frame {
         Frame::Element(ahead, parts) => join_element(start, ahead, parts, at, part),
         Frame::Item(ahead, parts) => join_item(start, ahead, parts, at, part),
         Frame::Tail(parts) => join_tail(alloc, start, parts, at, part),
