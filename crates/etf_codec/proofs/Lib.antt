@@ -33,6 +33,7 @@ pub mod SkippingExact
 pub mod GoOn
 pub mod Resuming
 pub mod JoinSteps
+pub mod HeadSteps
 pub mod Passing
 pub mod Answering
 pub mod Beginnings

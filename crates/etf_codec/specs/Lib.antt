@@ -20,4 +20,5 @@ pub mod Skipping
 pub mod Machine
 pub mod Begun
 pub mod Joins
+pub mod Heads
 pub mod Answers

@@ -21,6 +21,7 @@ mod encoding;
 pub mod encoding_laws;
 mod fault;
 mod frame;
+mod head;
 mod joining;
 pub mod laws;
 mod leaves;

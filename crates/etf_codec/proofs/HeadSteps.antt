@@ -1,0 +1,55 @@
+-- What stands behind a tag, by the number of its parts.
+use Rattle.std.proofs.Common.{◌≡◌, ℕ, suc, ◌-◌, ◌<◌, false, ◌==◌, List, [], Result, Ok, Err, ap, ◌∙◌, sym, arith}
+use Rattle.std.proofs.lemmas.Bool.Decides.{nat_tests}
+use Rattle.std.specs.Prelude.{◌⊎◌, ◌≢◌}
+use Rattle.std.specs.Result.{IsErrAnd}
+use mathlib.Core.Logic.{inl, inr}
+use Rattle.dets_term.specs.TermValue.{TermValue, tuple, nil, chain, map_of}
+use Rattle.etf_codec.specs.declared.fault.EtfFault.{EtfFault}
+use Rattle.etf_codec.specs.declared.fault.EtfFault.TheVariants.{Memory}
+use Rattle.etf_codec.specs.declared.frame.Frame.TheVariants.{Element, Item, Key}
+use Rattle.etf_codec.specs.declared.head.Head.{Head}
+use Rattle.etf_codec.specs.declared.head.Head.TheVariants.{Whole, Begun}
+use Rattle.etf_codec.specs.Format.{Format, Place, times, followed, changed, either}
+use Rattle.etf_codec.specs.Heads.{parts_read, HeadReads}
+use Rattle.etf_codec.specs.Spelling.{count, tuple_of, list_of, map_format, no_tail, part_at, tail_at, pairs_after}
+use Rattle.etf_codec.proofs.Bytes.{go_on_ok}
+
+pub tuple_begins : (levels size start n : ℕ) (place next : Place) (ts : List TermValue) → (count levels size).read start place ≡ Ok (n, next) → 0 < n → ts ≡ []
+    → (tuple_of (part_at levels) levels size).read start place ≡ parts_read (Element (n - 1) ts) levels start next
+tuple_begins levels size start n place next ts e h none =
+    let more : n ≡ suc (n - 1) = omega arith in
+    go_on_ok _ _ _ _ e ∙ ap (λ m. (changed (times m (part_at levels)) (λ ts. tuple (chain ts nil))).read start next) more
+    ∙ ap (λ us. parts_read (Element (n - 1) us) levels start next) (sym none)
+
+pub list_begins : (levels start n : ℕ) (place next : Place) (ts : List TermValue) → (count levels 4).read start place ≡ Ok (n, next) → 0 < n → ts ≡ []
+    → (list_of (part_at levels) (tail_at levels) levels).read start place ≡ parts_read (Item (n - 1) ts) levels start next
+list_begins levels start n place next ts e h none =
+    let some : (n == 0) ≡ false = grind (arith, nat_tests) in
+    let more : n ≡ suc (n - 1) = omega arith in
+    go_on_ok _ _ _ _ e
+    ∙ ap (λ b. (followed (times n (part_at levels)) (λ ts. changed (either b no_tail (tail_at levels)) (λ end. chain ts end))).read start next) some
+    ∙ ap (λ m. (followed (times m (part_at levels)) (λ ts. changed (tail_at levels) (λ end. chain ts end))).read start next) more
+    ∙ ap (λ us. parts_read (Item (n - 1) us) levels start next) (sym none)
+
+pub map_begins : (levels start n : ℕ) (place next : Place) (ps : List (TermValue × TermValue)) → (count levels 4).read start place ≡ Ok (n, next) → 0 < n → ps ≡ []
+    → (map_format (part_at levels) levels).read start place ≡ parts_read (Key (n - 1) ps) levels start next
+map_begins levels start n place next ps e h none =
+    let more : n ≡ suc (n - 1) = omega arith in
+    go_on_ok _ _ _ _ e ∙ ap (λ m. (changed (pairs_after (part_at levels) [] m) map_of).read start next) more
+    ∙ ap (λ qs. parts_read (Key (n - 1) qs) levels start next) (sym none)
+
+-- a head of an equal format
+pub head_same : (F G : Format TermValue) (levels start : ℕ) (before behind : Place) (answer : Result Head EtfFault)
+    → G.read start before ≡ F.read start before → HeadReads F levels start before behind answer → HeadReads G levels start before behind answer
+head_same F G levels start before behind (Ok (Whole t)) e h = e ∙ h
+head_same F G levels start before behind (Ok (Begun frame)) e h = e ∙ h
+head_same F G levels start before behind (Err fault) e (inl h) = inl h
+head_same F G levels start before behind (Err fault) e (inr h) = inr (e ∙ h)
+
+-- the fault of what it reads
+pub head_fault : (F : Format TermValue) (levels start : ℕ) (before behind : Place) (answer : Result Head EtfFault) (fault : EtfFault)
+    → IsErrAnd answer (λ y. y ≡ fault) → (fault ≡ Memory) ⊎ (F.read start before ≡ Err fault) → HeadReads F levels start before behind answer
+head_fault F levels start before behind (Ok head) fault h e = absurd h
+head_fault F levels start before behind (Err y) fault h (inl e) = inl (h ∙ e)
+head_fault F levels start before behind (Err y) fault h (inr e) = inr (e ∙ ap Err (sym h))

@@ -1,0 +1,18 @@
+use Rattle.std.proofs.Common.{arith, ◌∙◌}
+use Rattle.etf_codec.specs.Spelling.{list_of, part_at, tail_at}
+use Rattle.etf_codec.proofs.TermSteps.{list_none, or_else}
+use Rattle.etf_codec.proofs.HeadSteps.{list_begins, head_fault}
+use Rattle.etf_codec.proofs.head.list_head.Goals as goal
+
+pub returns-in_err-read_no_tail : goal.returns-in_err-read_no_tail
+returns-in_err-read_no_tail c =
+    head_fault (list_of (part_at c.args.levels) (tail_at c.args.levels) c.args.levels) c.args.levels c.args.start c.args.cursor.now c.read_no_tail.new.cursor c.from_residual-in_err-read_no_tail.result _
+    c.from_residual-in_err-read_no_tail.ensures.1
+    (or_else (λ e. list_none c.args.levels c.args.start c.in_ok-count.count c.args.cursor.now c.count.new.self c.in_ok-count.ensures.reads (omega arith) ∙ e) (c.in_err-read_no_tail.ensures.reads c.args.start))
+
+pub returns-then-count-eq0 : goal.returns-then-count-eq0
+returns-then-count-eq0 c =
+    list_none c.args.levels c.args.start c.in_ok-count.count c.args.cursor.now c.count.new.self c.in_ok-count.ensures.reads (omega arith) ∙ c.in_ok-read_no_tail.ensures.reads c.args.start
+
+pub returns : goal.returns
+returns c = list_begins c.args.levels c.args.start c.in_ok-count.count c.args.cursor.now c.count.new.self c.new.result c.in_ok-count.ensures.reads (omega arith) c.new.ensures

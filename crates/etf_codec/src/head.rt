@@ -1,0 +1,70 @@
+//! What stands behind a tag.
+ghost use Rattle.std.specs.Prelude.{◌≡◌, ◌≤◌, ◌<◌};
+ghost use Rattle.etf_codec.specs.Heads.{HeadReads};
+ghost use Rattle.etf_codec.specs.ReadTerms.{body_of};
+ghost use Rattle.etf_codec.specs.Spelling.{part_at, tail_at, tuple_of, list_of, map_format};
+
+use crate::EtfFault;
+use crate::building::only_memory;
+use crate::cursor::Cursor;
+use crate::frame::Frame;
+use crate::leaves::{read_leaf, read_no_tail};
+use crate::map_pairs::MapPairs;
+use crate::strings::read_string;
+use dets_term::{PairList, Term, TermList};
+use std::alloc::Global;
+
+/// A term, or what it begins with.
+#[derive(Drop)]
+pub(crate) enum Head {
+    Whole(Term),
+    /// It has parts, which are read next.
+    Begun(Frame),
+}
+
+/// What follows the tag of the term that begins at an offset, up to its first part. So many levels are left below it.
+pub(crate) fn read_head(alloc: Global, cursor: &mut Cursor<'_>, tag: u8, levels: u32, start: u64) -> Result<Head, EtfFault>
+    ensures { HeadReads (body_of levels tag) levels start cursor.old cursor.new result }
+{
+    match tag {
+        104 => tuple_head(alloc, cursor, 1, levels, start),
+        105 => tuple_head(alloc, cursor, 4, levels, start),
+        108 => list_head(alloc, cursor, levels, start),
+        116 => map_head(alloc, cursor, levels, start),
+        107 => Ok(Head::Whole(read_string(alloc, cursor, levels, start)?)),
+        _ => Ok(Head::Whole(read_leaf(alloc, cursor, tag, start)?)),
+    }
+}
+
+fn tuple_head(alloc: Global, cursor: &mut Cursor<'_>, size: u32, levels: u32, start: u64) -> Result<Head, EtfFault>
+    requires { size ≤ 4 }
+    ensures { HeadReads (tuple_of (part_at levels) levels size) levels start cursor.old cursor.new result }
+{
+    let count = cursor.count(size, levels, start)?;
+    if count == 0 {
+        let empty = only_memory(Term::tuple(TermList::new(alloc)))?;
+        return Ok(Head::Whole(empty));
+    }
+    Ok(Head::Begun(Frame::Element(count - 1, TermList::new(alloc))))
+}
+
+fn list_head(alloc: Global, cursor: &mut Cursor<'_>, levels: u32, start: u64) -> Result<Head, EtfFault>
+    ensures { HeadReads (list_of (part_at levels) (tail_at levels) levels) levels start cursor.old cursor.new result }
+{
+    let count = cursor.count(4, levels, start)?;
+    if count == 0 {
+        return Ok(Head::Whole(read_no_tail(alloc, cursor)?));
+    }
+    Ok(Head::Begun(Frame::Item(count - 1, TermList::new(alloc))))
+}
+
+fn map_head(alloc: Global, cursor: &mut Cursor<'_>, levels: u32, start: u64) -> Result<Head, EtfFault>
+    ensures { HeadReads (map_format (part_at levels) levels) levels start cursor.old cursor.new result }
+{
+    let count = cursor.count(4, levels, start)?;
+    if count == 0 {
+        let empty = only_memory(Term::map(PairList::new(alloc)))?;
+        return Ok(Head::Whole(empty));
+    }
+    Ok(Head::Begun(Frame::Key(count - 1, MapPairs::new(alloc))))
+}
