@@ -1,7 +1,7 @@
 -- What stands behind a tag, by the number of its parts.
 use Rattle.std.proofs.Common.{◌≡◌, ℕ, suc, ◌-◌, ◌<◌, false, ◌==◌, List, [], Result, Ok, Err, ap, ◌∙◌, sym, arith}
 use Rattle.std.proofs.lemmas.Bool.Decides.{nat_tests}
-use Rattle.std.specs.Prelude.{◌⊎◌, ◌≢◌}
+use Rattle.std.specs.Prelude.{◌⊎◌}
 use Rattle.std.specs.Result.{IsErrAnd}
 use mathlib.Core.Logic.{inl, inr}
 use Rattle.dets_term.specs.TermValue.{TermValue, tuple, nil, chain, map_of}

@@ -1,12 +1,10 @@
 -- What joining a part to a begun term keeps.
-use Rattle.std.proofs.Common.{◌≡◌, ℕ, zero, suc, ◌+◌, ◌-◌, ◌<◌, ◌≤◌, ◌^◌, false, not, List, [], ◌∷◌, ◌++◌, length, Result, Ok, Err, refl, ap, sym, ◌∙◌, subst, arith}
+use Rattle.std.proofs.Common.{◌≡◌, ℕ, zero, suc, ◌+◌, ◌-◌, ◌<◌, ◌≤◌, List, [], ◌∷◌, ◌++◌, length, Result, Ok, Err, ap, sym, ◌∙◌, subst, arith}
 use Rattle.std.specs.Prelude.{◌⊎◌}
 use mathlib.Core.Logic.{inl, inr}
 use Rattle.std.proofs.lemmas.List.{length-append}
 use Rattle.std.proofs.lemmas.List.Sorted.{IsPermutation-refl}
-use Rattle.std.specs.List.{list_any}
 use Rattle.dets_term.specs.TermValue.{TermValue, tuple, nil, chain, map_of, elements, depth}
-use Rattle.dets_term.specs.Order.{is_same}
 use Rattle.dets_term.specs.IsTerm.{AreAscending}
 use Rattle.dets_term.specs.Pairs.{keys, placed, map_built}
 use Rattle.dets_term.proofs.PairSorts.{ascending_is_by_key}
@@ -21,7 +19,7 @@ use Rattle.etf_codec.specs.Format.{Place}
 use Rattle.etf_codec.specs.Machine.{resume, reading_at}
 use Rattle.etf_codec.specs.Begun.{PartsFit, PairsFit, FrameFits, PartFits, MayBegin}
 use Rattle.etf_codec.proofs.PairOrder.{length-placed, deepest-placed, map_built_within, depth-map_of}
-use Rattle.etf_codec.proofs.Resuming.{element_more, element_last, item_more, item_last, key_new, key_known, value_more}
+use Rattle.etf_codec.proofs.Resuming.{element_more, item_more, item_last, value_more}
 
 -- ---- limits
 

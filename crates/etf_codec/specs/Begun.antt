@@ -2,7 +2,6 @@
 use Rattle.std.specs.Prelude.{◌≡◌, ℕ, ◌+◌, ◌^◌, ◌<◌, ◌≤◌, false, List, [], ◌∷◌, length}
 use Rattle.std.specs.List.{list_any}
 use Rattle.dets_term.specs.TermValue.{TermValue, elements, depth}
-use Rattle.dets_term.specs.IsTerm.{AreAscending}
 use Rattle.dets_term.specs.Order.{is_same}
 use Rattle.dets_term.specs.Pairs.{keys}
 use Rattle.dets_term.specs.Parts.{deepest, deepest_of_pairs}

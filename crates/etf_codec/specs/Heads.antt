@@ -1,6 +1,6 @@
 -- What stands behind a tag: a whole term, or one that is begun. This project's own.
-use Rattle.std.specs.Prelude.{◌≡◌, ℕ, suc, ◌≤◌, ◌⊎◌, List, [], ◌++◌, Result, Ok, Err}
-use Rattle.dets_term.specs.TermValue.{TermValue, tuple, nil, chain, elements, depth}
+use Rattle.std.specs.Prelude.{◌≡◌, ℕ, suc, ◌⊎◌, ◌++◌, Result, Ok, Err}
+use Rattle.dets_term.specs.TermValue.{TermValue, tuple, nil, chain}
 use Rattle.etf_codec.specs.declared.fault.EtfFault.{EtfFault}
 use Rattle.etf_codec.specs.declared.fault.EtfFault.TheVariants.{Memory}
 use Rattle.etf_codec.specs.declared.frame.Frame.{Frame}
@@ -10,7 +10,6 @@ use Rattle.etf_codec.specs.declared.head.Head.TheVariants.{Whole, Begun}
 use Rattle.etf_codec.specs.Format.{Format, Place, Reading, followed, changed, times}
 use Rattle.etf_codec.specs.Spelling.{part_at, tail_at}
 use Rattle.etf_codec.specs.Machine.{map_behind}
-use Rattle.etf_codec.specs.Begun.{FrameFits}
 
 -- What reading the parts of a begun term answers, from the next one on. Only what has just been begun has this form.
 abbrev pub parts_read : Frame → (levels start : ℕ) → Place → Reading TermValue

@@ -1,6 +1,6 @@
 -- Reading a term piece by piece: the terms that are begun, the innermost first, and what reading answers behind a part
 -- of the innermost one. This project's own.
-use Rattle.std.specs.Prelude.{ℕ, suc, ◌-◌, cond, not, Bool, true, false, List, [], ◌∷◌, ◌++◌, length, Ok, Err}
+use Rattle.std.specs.Prelude.{ℕ, ◌-◌, cond, not, List, [], ◌∷◌, ◌++◌, length, Ok, Err}
 use Rattle.std.specs.List.{list_any}
 use Rattle.dets_term.specs.TermValue.{TermValue, tuple, nil, chain, map_of}
 use Rattle.dets_term.specs.Order.{is_same}

@@ -23,7 +23,13 @@ pub(crate) enum Head {
 }
 
 /// What follows the tag of the term that begins at an offset, up to its first part. So many levels are left below it.
-pub(crate) fn read_head(alloc: Global, cursor: &mut Cursor<'_>, tag: u8, levels: u32, start: u64) -> Result<Head, EtfFault>
+pub(crate) fn read_head(
+    alloc: Global,
+    cursor: &mut Cursor<'_>,
+    tag: u8,
+    levels: u32,
+    start: u64,
+) -> Result<Head, EtfFault>
     ensures { HeadReads (body_of levels tag) levels start cursor.old cursor.new result }
 {
     match tag {
@@ -36,7 +42,13 @@ pub(crate) fn read_head(alloc: Global, cursor: &mut Cursor<'_>, tag: u8, levels:
     }
 }
 
-fn tuple_head(alloc: Global, cursor: &mut Cursor<'_>, size: u32, levels: u32, start: u64) -> Result<Head, EtfFault>
+fn tuple_head(
+    alloc: Global,
+    cursor: &mut Cursor<'_>,
+    size: u32,
+    levels: u32,
+    start: u64,
+) -> Result<Head, EtfFault>
     requires { size ≤ 4 }
     ensures { HeadReads (tuple_of (part_at levels) levels size) levels start cursor.old cursor.new result }
 {
@@ -48,7 +60,12 @@ fn tuple_head(alloc: Global, cursor: &mut Cursor<'_>, size: u32, levels: u32, st
     Ok(Head::Begun(Frame::Element(count - 1, TermList::new(alloc))))
 }
 
-fn list_head(alloc: Global, cursor: &mut Cursor<'_>, levels: u32, start: u64) -> Result<Head, EtfFault>
+fn list_head(
+    alloc: Global,
+    cursor: &mut Cursor<'_>,
+    levels: u32,
+    start: u64,
+) -> Result<Head, EtfFault>
     ensures { HeadReads (list_of (part_at levels) (tail_at levels) levels) levels start cursor.old cursor.new result }
 {
     let count = cursor.count(4, levels, start)?;
@@ -58,7 +75,12 @@ fn list_head(alloc: Global, cursor: &mut Cursor<'_>, levels: u32, start: u64) ->
     Ok(Head::Begun(Frame::Item(count - 1, TermList::new(alloc))))
 }
 
-fn map_head(alloc: Global, cursor: &mut Cursor<'_>, levels: u32, start: u64) -> Result<Head, EtfFault>
+fn map_head(
+    alloc: Global,
+    cursor: &mut Cursor<'_>,
+    levels: u32,
+    start: u64,
+) -> Result<Head, EtfFault>
     ensures { HeadReads (map_format (part_at levels) levels) levels start cursor.old cursor.new result }
 {
     let count = cursor.count(4, levels, start)?;

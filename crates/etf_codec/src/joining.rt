@@ -37,7 +37,13 @@ pub(crate) fn join(alloc: Global, begun: Begun, at: u64, part: Term) -> Result<J
     }
 }
 
-fn join_element(start: u64, ahead: u32, parts: TermList, at: u64, part: Term) -> Result<Joined, EtfFault>
+fn join_element(
+    start: u64,
+    ahead: u32,
+    parts: TermList,
+    at: u64,
+    part: Term,
+) -> Result<Joined, EtfFault>
     requires frame { FrameFits (Element ahead parts) 255 }
     requires part { PartFits (Element ahead parts) 255 part }
     ensures joins { JoinsTo (record { start = start; frame = Element ahead parts }) at part result }
@@ -54,7 +60,13 @@ fn join_element(start: u64, ahead: u32, parts: TermList, at: u64, part: Term) ->
     Ok(Joined::Open(Begun { start, frame }))
 }
 
-fn join_item(start: u64, ahead: u32, parts: TermList, at: u64, part: Term) -> Result<Joined, EtfFault>
+fn join_item(
+    start: u64,
+    ahead: u32,
+    parts: TermList,
+    at: u64,
+    part: Term,
+) -> Result<Joined, EtfFault>
     ensures joins { JoinsTo (record { start = start; frame = Item ahead parts }) at part result }
     ensures within { (levels : ℕ) → levels ≤ 255 → FrameFits (Item ahead parts) levels → PartFits (Item ahead parts) levels part
         → JoinsWithin (record { start = start; frame = Item ahead parts }) levels result }
@@ -69,7 +81,13 @@ fn join_item(start: u64, ahead: u32, parts: TermList, at: u64, part: Term) -> Re
     Ok(Joined::Open(Begun { start, frame }))
 }
 
-fn join_tail(alloc: Global, start: u64, parts: TermList, at: u64, part: Term) -> Result<Joined, EtfFault>
+fn join_tail(
+    alloc: Global,
+    start: u64,
+    parts: TermList,
+    at: u64,
+    part: Term,
+) -> Result<Joined, EtfFault>
     requires frame { FrameFits (Tail parts) 255 }
     requires part { PartFits (Tail parts) 255 part }
     ensures joins { JoinsTo (record { start = start; frame = Tail parts }) at part result }
@@ -92,7 +110,15 @@ fn join_key(start: u64, ahead: u32, pairs: MapPairs, at: u64, key: Term) -> Resu
     Ok(Joined::Open(Begun { start, frame }))
 }
 
-fn join_value(alloc: Global, start: u64, ahead: u32, pairs: MapPairs, key: Term, at: u64, value: Term) -> Result<Joined, EtfFault>
+fn join_value(
+    alloc: Global,
+    start: u64,
+    ahead: u32,
+    pairs: MapPairs,
+    key: Term,
+    at: u64,
+    value: Term,
+) -> Result<Joined, EtfFault>
     requires frame { FrameFits (Value ahead pairs key) 255 }
     requires part { PartFits (Value ahead pairs key) 255 value }
     ensures joins { JoinsTo (record { start = start; frame = Value ahead pairs key }) at value result }

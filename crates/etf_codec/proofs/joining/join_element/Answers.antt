@@ -1,7 +1,7 @@
-use Rattle.std.proofs.Common.{suc, ◌+◌, ◌≤◌, ◌≡◌, arith, sym, ap, ◌∙◌, subst, refl}
-use Rattle.dets_term.specs.TermValue.{tuple, nil, chain, elements, depth}
+use Rattle.std.proofs.Common.{◌+◌, ◌≤◌, arith, sym, ap, ◌∙◌}
+use Rattle.dets_term.specs.TermValue.{elements, depth}
 use Rattle.etf_codec.specs.Machine.{resume}
-use Rattle.etf_codec.proofs.Built.{IfErr-ok, IfOk-made}
+use Rattle.etf_codec.proofs.Built.{IfErr-ok}
 use Rattle.etf_codec.proofs.TermSteps.{built_tuple, depth-tuple_of}
 use Rattle.etf_codec.proofs.JoinSteps.{fit_more, fit_last, part_fits, may_begin_element, element_goes_on, element_ends, one_made}
 use Rattle.etf_codec.proofs.joining.join_element.Goals as goal

@@ -1,6 +1,5 @@
-use Rattle.std.proofs.Common.{sym, ap, ◌∙◌}
-use Rattle.etf_codec.proofs.Resuming.{key_new, key_known}
-use Rattle.etf_codec.proofs.JoinSteps.{may_begin_value}
+use Rattle.std.proofs.Common.{sym}
+use Rattle.etf_codec.proofs.Resuming.{key_new}
 use Rattle.etf_codec.proofs.joining.join_key.Goals as goal
 
 pub returns-clause-joins : goal.returns-clause-joins
