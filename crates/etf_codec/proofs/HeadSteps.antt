@@ -1,7 +1,7 @@
 -- What stands behind a tag, by the number of its parts.
-use Rattle.std.proofs.Common.{◌≡◌, ℕ, suc, ◌-◌, ◌<◌, false, ◌==◌, List, [], Result, Ok, Err, ap, ◌∙◌, sym, arith}
+use Rattle.std.proofs.Common.{◌≡◌, ℕ, zero, suc, ◌-◌, ◌<◌, ◌≤◌, refl, subst, false, ◌==◌, List, [], Result, Ok, Err, ap, ◌∙◌, sym, arith}
 use Rattle.std.proofs.lemmas.Bool.Decides.{nat_tests}
-use Rattle.std.specs.Prelude.{◌⊎◌}
+use Rattle.std.specs.Prelude.{◌⊎◌, ◌≢◌}
 use Rattle.std.specs.Result.{IsErrAnd}
 use mathlib.Core.Logic.{inl, inr}
 use Rattle.dets_term.specs.TermValue.{TermValue, tuple, nil, chain, map_of}
@@ -11,7 +11,7 @@ use Rattle.etf_codec.specs.declared.frame.Frame.TheVariants.{Element, Item, Key}
 use Rattle.etf_codec.specs.declared.head.Head.{Head}
 use Rattle.etf_codec.specs.declared.head.Head.TheVariants.{Whole, Begun}
 use Rattle.etf_codec.specs.Format.{Format, Place, times, followed, changed, either}
-use Rattle.etf_codec.specs.Heads.{parts_read, HeadReads}
+use Rattle.etf_codec.specs.Heads.{parts_read, HeadReads, HeadFits}
 use Rattle.etf_codec.specs.Spelling.{count, tuple_of, list_of, map_format, no_tail, part_at, tail_at, pairs_after}
 use Rattle.etf_codec.proofs.Bytes.{go_on_ok}
 
@@ -53,3 +53,24 @@ pub head_fault : (F : Format TermValue) (levels start : ℕ) (before behind : Pl
 head_fault F levels start before behind (Ok head) fault h e = absurd h
 head_fault F levels start before behind (Err y) fault h (inl e) = inl (h ∙ e)
 head_fault F levels start before behind (Err y) fault h (inr e) = inr (e ∙ ap Err (sym h))
+
+-- ---- limits
+
+-- a fault has none
+pub fault_fits : (tag levels : ℕ) (answer : Result Head EtfFault) (fault : EtfFault) → IsErrAnd answer (λ y. y ≡ fault) → HeadFits tag levels answer
+fault_fits tag levels (Ok head) fault h = absurd h
+fault_fits tag levels (Err y) fault h = tt
+
+-- under another tag that begins no list
+pub fits_as : (tag other levels : ℕ) (answer : Result Head EtfFault) → tag ≢ 108 → tag ≢ 107 → HeadFits tag levels answer → HeadFits other levels answer
+fits_as tag other levels (Ok (Whole t)) n m h = (h.0, λ x y. h.1 m n)
+fits_as tag other levels (Ok (Begun frame)) n m h = (h.0, h.1, λ x. h.2 n)
+fits_as tag other levels (Err fault) n m h = tt
+
+pub list_fits_as : (tag levels : ℕ) (answer : Result Head EtfFault) → tag ≡ 108 → HeadFits 108 levels answer → HeadFits tag levels answer
+list_fits_as tag levels answer e h = subst (λ t. HeadFits t levels answer) (sym e) h
+
+-- room for a part where there is one
+pub room : (levels n : ℕ) → (levels ≡ 0 → n ≡ 0) → 0 < n → 1 ≤ levels
+room zero n h p = absurd (omega (arith, h refl))
+room (suc levels) n h p = omega arith

@@ -1,6 +1,6 @@
 -- What stands behind a tag: a whole term, or one that is begun. This project's own.
-use Rattle.std.specs.Prelude.{◌≡◌, ℕ, suc, ◌⊎◌, ◌++◌, Result, Ok, Err}
-use Rattle.dets_term.specs.TermValue.{TermValue, tuple, nil, chain}
+use Rattle.std.specs.Prelude.{◌≡◌, ◌≢◌, ℕ, suc, ◌≤◌, [], ◌⊎◌, ◌++◌, Result, Ok, Err}
+use Rattle.dets_term.specs.TermValue.{TermValue, tuple, nil, chain, elements, depth}
 use Rattle.etf_codec.specs.declared.fault.EtfFault.{EtfFault}
 use Rattle.etf_codec.specs.declared.fault.EtfFault.TheVariants.{Memory}
 use Rattle.etf_codec.specs.declared.frame.Frame.{Frame}
@@ -10,6 +10,7 @@ use Rattle.etf_codec.specs.declared.head.Head.TheVariants.{Whole, Begun}
 use Rattle.etf_codec.specs.Format.{Format, Place, Reading, followed, changed, times}
 use Rattle.etf_codec.specs.Spelling.{part_at, tail_at}
 use Rattle.etf_codec.specs.Machine.{map_behind}
+use Rattle.etf_codec.specs.Begun.{FrameFits, MayBegin}
 
 -- What reading the parts of a begun term answers, from the next one on. Only what has just been begun has this form.
 abbrev pub parts_read : Frame → (levels start : ℕ) → Place → Reading TermValue
@@ -25,3 +26,10 @@ abbrev pub HeadReads : Format TermValue → (levels start : ℕ) → Place → P
 HeadReads F levels start before behind (Ok (Whole t)) = F.read start before ≡ Ok (t, behind)
 HeadReads F levels start before behind (Ok (Begun frame)) = F.read start before ≡ parts_read frame levels start behind
 HeadReads F levels start before behind (Err fault) = (fault ≡ Memory) ⊎ (F.read start before ≡ Err fault)
+
+-- A term with no more levels than are left, which is a list with elements only behind the tags 107 and 108, or a begun
+-- one within its limits, which is a list only behind 108.
+abbrev pub HeadFits : (tag levels : ℕ) → Result Head EtfFault → Type 0
+HeadFits tag levels (Ok (Whole t)) = (depth t ≤ suc levels) × (tag ≢ 107 → tag ≢ 108 → elements t ≡ [])
+HeadFits tag levels (Ok (Begun frame)) = (1 ≤ levels) × FrameFits frame levels × (tag ≢ 108 → (outer : Frame) → MayBegin outer frame)
+HeadFits tag levels (Err fault) = Unit {0}

@@ -1,6 +1,6 @@
 //! What stands behind a tag.
 ghost use Rattle.std.specs.Prelude.{◌≡◌, ◌≤◌, ◌<◌};
-ghost use Rattle.etf_codec.specs.Heads.{HeadReads};
+ghost use Rattle.etf_codec.specs.Heads.{HeadReads, HeadFits};
 ghost use Rattle.etf_codec.specs.ReadTerms.{body_of};
 ghost use Rattle.etf_codec.specs.Spelling.{part_at, tail_at, tuple_of, list_of, map_format};
 
@@ -30,7 +30,8 @@ pub(crate) fn read_head(
     levels: u32,
     start: u64,
 ) -> Result<Head, EtfFault>
-    ensures { HeadReads (body_of levels tag) levels start cursor.old cursor.new result }
+    ensures reads { HeadReads (body_of levels tag) levels start cursor.old cursor.new result }
+    ensures fits { HeadFits tag levels result }
 {
     match tag {
         104 => tuple_head(alloc, cursor, 1, levels, start),
@@ -50,7 +51,8 @@ fn tuple_head(
     start: u64,
 ) -> Result<Head, EtfFault>
     requires { size ≤ 4 }
-    ensures { HeadReads (tuple_of (part_at levels) levels size) levels start cursor.old cursor.new result }
+    ensures reads { HeadReads (tuple_of (part_at levels) levels size) levels start cursor.old cursor.new result }
+    ensures fits { HeadFits 104 levels result }
 {
     let count = cursor.count(size, levels, start)?;
     if count == 0 {
@@ -66,7 +68,8 @@ fn list_head(
     levels: u32,
     start: u64,
 ) -> Result<Head, EtfFault>
-    ensures { HeadReads (list_of (part_at levels) (tail_at levels) levels) levels start cursor.old cursor.new result }
+    ensures reads { HeadReads (list_of (part_at levels) (tail_at levels) levels) levels start cursor.old cursor.new result }
+    ensures fits { HeadFits 108 levels result }
 {
     let count = cursor.count(4, levels, start)?;
     if count == 0 {
@@ -81,7 +84,8 @@ fn map_head(
     levels: u32,
     start: u64,
 ) -> Result<Head, EtfFault>
-    ensures { HeadReads (map_format (part_at levels) levels) levels start cursor.old cursor.new result }
+    ensures reads { HeadReads (map_format (part_at levels) levels) levels start cursor.old cursor.new result }
+    ensures fits { HeadFits 116 levels result }
 {
     let count = cursor.count(4, levels, start)?;
     if count == 0 {

@@ -6,31 +6,31 @@ use Rattle.etf_codec.proofs.TermSteps.{or_else}
 use Rattle.etf_codec.proofs.HeadSteps.{head_same, head_fault}
 use Rattle.etf_codec.proofs.head.read_head.Goals as goal
 
-pub returns-in-104 : goal.returns-in-104
-returns-in-104 c =
+pub returns-in-104-clause-reads : goal.returns-in-104-clause-reads
+returns-in-104-clause-reads c =
     head_same (tuple_of (part_at c.args.levels) c.args.levels 1) (body_of c.args.levels c.args.tag) c.args.levels c.args.start c.args.cursor.now c.tuple_head.new.cursor c.tuple_head.result
-    (body-small_tuple c.args.levels c.args.tag c.args.start c.args.cursor.now c.in-104.is) c.tuple_head.ensures
+    (body-small_tuple c.args.levels c.args.tag c.args.start c.args.cursor.now c.in-104.is) c.tuple_head.ensures.reads
 
-pub returns-in-105 : goal.returns-in-105
-returns-in-105 c =
+pub returns-in-105-clause-reads : goal.returns-in-105-clause-reads
+returns-in-105-clause-reads c =
     head_same (tuple_of (part_at c.args.levels) c.args.levels 4) (body_of c.args.levels c.args.tag) c.args.levels c.args.start c.args.cursor.now c.tuple_head-in-105.new.cursor c.tuple_head-in-105.result
-    (body-large_tuple c.args.levels c.args.tag c.args.start c.args.cursor.now c.in-105.is) c.tuple_head-in-105.ensures
+    (body-large_tuple c.args.levels c.args.tag c.args.start c.args.cursor.now c.in-105.is) c.tuple_head-in-105.ensures.reads
 
-pub returns-in-108 : goal.returns-in-108
-returns-in-108 c =
+pub returns-in-108-clause-reads : goal.returns-in-108-clause-reads
+returns-in-108-clause-reads c =
     head_same (list_of (part_at c.args.levels) (tail_at c.args.levels) c.args.levels) (body_of c.args.levels c.args.tag) c.args.levels c.args.start c.args.cursor.now c.list_head.new.cursor c.list_head.result
-    (body-list c.args.levels c.args.tag c.args.start c.args.cursor.now c.in-108.is) c.list_head.ensures
+    (body-list c.args.levels c.args.tag c.args.start c.args.cursor.now c.in-108.is) c.list_head.ensures.reads
 
-pub returns-in-116 : goal.returns-in-116
-returns-in-116 c =
+pub returns-in-116-clause-reads : goal.returns-in-116-clause-reads
+returns-in-116-clause-reads c =
     head_same (map_format (part_at c.args.levels) c.args.levels) (body_of c.args.levels c.args.tag) c.args.levels c.args.start c.args.cursor.now c.map_head.new.cursor c.map_head.result
-    (body-map c.args.levels c.args.tag c.args.start c.args.cursor.now c.in-116.is) c.map_head.ensures
+    (body-map c.args.levels c.args.tag c.args.start c.args.cursor.now c.in-116.is) c.map_head.ensures.reads
 
-pub returns-in_err-read_string-in-107 : goal.returns-in_err-read_string-in-107
-returns-in_err-read_string-in-107 c =
+pub returns-in_err-read_string-in-107-clause-reads : goal.returns-in_err-read_string-in-107-clause-reads
+returns-in_err-read_string-in-107-clause-reads c =
     head_fault (body_of c.args.levels c.args.tag) c.args.levels c.args.start c.args.cursor.now c.read_string.new.cursor c.from_residual.result _ c.from_residual.ensures.1
     (or_else (λ e. body-string c.args.levels c.args.tag c.args.start c.args.cursor.now c.in-107.is ∙ e) c.in_err-read_string-in-107.ensures.reads)
 
-pub returns-in_ok-read_string-in-107 : goal.returns-in_ok-read_string-in-107
-returns-in_ok-read_string-in-107 c =
+pub returns-in_ok-read_string-in-107-clause-reads : goal.returns-in_ok-read_string-in-107-clause-reads
+returns-in_ok-read_string-in-107-clause-reads c =
     body-string c.args.levels c.args.tag c.args.start c.args.cursor.now c.in-107.is ∙ c.in_ok-read_string-in-107.ensures.reads
