@@ -34,6 +34,7 @@ pub mod GoOn
 pub mod Resuming
 pub mod JoinSteps
 pub mod HeadSteps
+pub mod Nests
 pub mod Passing
 pub mod Answering
 pub mod Beginnings

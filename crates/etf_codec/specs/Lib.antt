@@ -21,4 +21,5 @@ pub mod Machine
 pub mod Begun
 pub mod Joins
 pub mod Heads
+pub mod TermReader
 pub mod Answers

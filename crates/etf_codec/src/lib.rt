@@ -31,4 +31,5 @@ pub mod rows;
 mod skipping;
 pub mod skipping_laws;
 mod strings;
+mod term_reader;
 mod terms;
