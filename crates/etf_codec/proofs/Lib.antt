@@ -35,6 +35,7 @@ pub mod Resuming
 pub mod JoinSteps
 pub mod HeadSteps
 pub mod Nests
+pub mod TagSteps
 pub mod Passing
 pub mod Answering
 pub mod Beginnings

@@ -22,4 +22,5 @@ pub mod Begun
 pub mod Joins
 pub mod Heads
 pub mod TermReader
+pub mod Tags
 pub mod Answers

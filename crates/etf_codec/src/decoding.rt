@@ -1,12 +1,13 @@
 //! Decoding of spellings.
-ghost use Rattle.std.specs.Prelude.{◌≡◌, ℕ, ◌==◌, cond};
+ghost use Rattle.std.specs.Prelude.{ℕ};
 ghost use Rattle.etf_codec.specs.Decoding.{IsDecoding};
 ghost use Rattle.etf_codec.specs.Reads.{ReadsWithin};
 ghost use Rattle.etf_codec.specs.Spelling.{outermost, spelling};
 
 use crate::EtfFault;
 use crate::cursor::Cursor;
-use crate::terms::{is_known_tag, read_body};
+use crate::tags::{is_known_tag, unknown_tag};
+use crate::terms::read_body;
 use dets_term::Term;
 use std::alloc::Global;
 
@@ -47,17 +48,6 @@ fn read_outermost(alloc: Global, cursor: &mut Cursor<'_>) -> Result<Term, EtfFau
         return Err(unknown_tag(start, tag));
     }
     read_body(alloc, cursor, tag, LEVELS, start)
-}
-
-/// The fault of a tag that no first term begins with: 80 begins a compressed one.
-fn unknown_tag(start: u64, tag: u8) -> EtfFault
-    ensures { result ≡ cond (tag == 80) (EtfFault.Compressed start) (EtfFault.Unsupported start tag) }
-{
-    if tag == 80 {
-        EtfFault::Compressed(start)
-    } else {
-        EtfFault::Unsupported(start, tag)
-    }
 }
 
 #[cfg(test)]

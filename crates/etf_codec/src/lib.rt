@@ -31,5 +31,6 @@ pub mod rows;
 mod skipping;
 pub mod skipping_laws;
 mod strings;
+mod tags;
 mod term_reader;
 mod terms;

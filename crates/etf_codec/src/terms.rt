@@ -4,7 +4,6 @@ ghost use Rattle.dets_term.specs.Pairs.{keys, repeats, by_key};
 ghost use Rattle.dets_term.specs.Parts.{deepest, deepest_of_pairs};
 ghost use Rattle.dets_term.specs.TermValue.{depth, elements};
 ghost use Rattle.etf_codec.specs.Format.{times};
-ghost use Rattle.etf_codec.specs.Layout.{is_known, begins_tail};
 ghost use Rattle.etf_codec.specs.Reads.{ReadsWithin};
 ghost use Rattle.etf_codec.specs.ReadTerms.{body_of};
 ghost use Rattle.etf_codec.specs.Spelling.{tuple_of, list_of, map_format, pairs_after, part_at, tail_at};
@@ -15,6 +14,7 @@ use crate::cursor::Cursor;
 use crate::leaves::{read_leaf, read_no_tail};
 use crate::map_pairs::MapPairs;
 use crate::strings::read_string;
+use crate::tags::{is_known_tag, may_begin_tail};
 use dets_term::{PairList, Term, TermList};
 use std::alloc::Global;
 
@@ -186,18 +186,4 @@ fn read_pairs(
         pairs.insert(key, value)?;
     }
     Ok(pairs.into_pairs(alloc)?)
-}
-
-/// Whether a tag begins a term.
-pub(crate) fn is_known_tag(tag: u8) -> bool
-    ensures { result ≡ is_known tag }
-{
-    matches!(tag, 77 | 97 | 98 | 100 | 104..=111 | 115 | 116 | 118 | 119)
-}
-
-/// Whether a tag begins the tail of a list with elements.
-fn may_begin_tail(tag: u8) -> bool
-    ensures { result ≡ begins_tail tag }
-{
-    is_known_tag(tag) && tag != 107 && tag != 108
 }
