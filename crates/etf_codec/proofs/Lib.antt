@@ -36,6 +36,7 @@ pub mod JoinSteps
 pub mod HeadSteps
 pub mod Nests
 pub mod TagSteps
+pub mod NextParts
 pub mod Passing
 pub mod Answering
 pub mod Beginnings

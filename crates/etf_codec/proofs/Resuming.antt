@@ -14,10 +14,10 @@ use Rattle.etf_codec.specs.Spelling.{part_at, tail_at, pairs_after}
 use Rattle.etf_codec.specs.Machine.{levels_below, map_behind, resume, reading_at}
 use Rattle.etf_codec.proofs.GoOn.{go_on_twice, times-first, times-first-followed, whichever_term}
 
-part_anywhere : (levels s t : ℕ) (place : Place) → (part_at levels).read s place ≡ (part_at levels).read t place
+pub part_anywhere : (levels s t : ℕ) (place : Place) → (part_at levels).read s place ≡ (part_at levels).read t place
 part_anywhere levels s t place = whichever_term is_known (λ term x. Unsupported term x) levels s t place
 
-tail_anywhere : (levels s t : ℕ) (place : Place) → (tail_at levels).read s place ≡ (tail_at levels).read t place
+pub tail_anywhere : (levels s t : ℕ) (place : Place) → (tail_at levels).read s place ≡ (tail_at levels).read t place
 tail_anywhere levels s t place = whichever_term begins_tail (λ term x. Unsupported term x) levels s t place
 
 -- elements behind one more

@@ -1,6 +1,7 @@
 -- What stands behind a tag: a whole term, or one that is begun. This project's own.
 use Rattle.std.specs.Prelude.{◌≡◌, ◌≢◌, ℕ, suc, ◌≤◌, [], ◌⊎◌, ◌++◌, Result, Ok, Err}
 use Rattle.dets_term.specs.TermValue.{TermValue, tuple, nil, chain, elements, depth}
+use Rattle.dets_term.specs.Pairs.{placed}
 use Rattle.etf_codec.specs.declared.fault.EtfFault.{EtfFault}
 use Rattle.etf_codec.specs.declared.fault.EtfFault.TheVariants.{Memory}
 use Rattle.etf_codec.specs.declared.frame.Frame.{Frame}
@@ -12,14 +13,14 @@ use Rattle.etf_codec.specs.Spelling.{part_at, tail_at}
 use Rattle.etf_codec.specs.Machine.{map_behind}
 use Rattle.etf_codec.specs.Begun.{FrameFits, MayBegin}
 
--- What reading the parts of a begun term answers, from the next one on. Only what has just been begun has this form.
+-- what reading the parts of a begun term answers, from the next one on
 abbrev pub parts_read : Frame → (levels start : ℕ) → Place → Reading TermValue
 parts_read (Element n ts) levels start place = (changed (times (suc n) (part_at levels)) (λ us. tuple (chain (ts ++ us) nil))).read start place
 parts_read (Item n ts) levels start place =
     (followed (times (suc n) (part_at levels)) (λ us. changed (tail_at levels) (λ end. chain (ts ++ us) end))).read start place
 parts_read (Tail ts) levels start place = (changed (tail_at levels) (λ end. chain ts end)).read start place
 parts_read (Key n pairs) levels start place = (map_behind levels pairs (suc n)).read start place
-parts_read (Value n pairs k) levels start place = (map_behind levels pairs (suc n)).read start place
+parts_read (Value n pairs k) levels start place = (followed (part_at levels) (λ v. map_behind levels (placed (k, v) pairs) n)).read start place
 
 -- what is answered behind the tag of the term that begins at an offset, below which so many levels are left
 abbrev pub HeadReads : Format TermValue → (levels start : ℕ) → Place → Place → Result Head EtfFault → Type 0

@@ -18,3 +18,10 @@ abbrev pub Completes : (old new : List Begun) → ℕ → TermValue → Result (
 Completes old new start t (Ok (Some whole)) = (new ≡ []) × ((place : Place) → resume (reverse old) start t place ≡ Ok (whole, place))
 Completes old new start t (Ok None) = IsNest new × ((place : Place) → resume (reverse old) start t place ≡ reading_at (reverse new) place)
 Completes old new start t (Err fault) = (fault ≡ Memory) ⊎ ((place : Place) → resume (reverse old) start t place ≡ Err fault)
+
+-- What is answered at a place where the next part begins: the term of all that was begun, or that another part is to be
+-- read, or the fault.
+abbrev pub NextReads : (old new : List Begun) → Place → Place → Result (Option TermValue) EtfFault → Type 0
+NextReads old new before behind (Ok (Some whole)) = reading_at (reverse old) before ≡ Ok (whole, behind)
+NextReads old new before behind (Ok None) = IsNest new × (reading_at (reverse old) before ≡ reading_at (reverse new) behind)
+NextReads old new before behind (Err fault) = (fault ≡ Memory) ⊎ (reading_at (reverse old) before ≡ Err fault)

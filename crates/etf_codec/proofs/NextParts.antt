@@ -1,0 +1,160 @@
+-- The next part of what is begun.
+use Rattle.std.proofs.Common.{◌≡◌, ℕ, zero, suc, ◌+◌, ◌-◌, ◌<◌, ◌≤◌, List, [], ◌∷◌, length, Result, Ok, Err, refl, ap, sym, ◌∙◌, subst, arith}
+use Rattle.std.specs.Prelude.{reverse, ◌⊎◌, ◌≢◌, Option, Some, None}
+use Rattle.etf_codec.specs.declared.tags.Position.{Position}
+use Rattle.std.specs.Result.{IsErrAnd}
+use mathlib.Core.Logic.{inl, inr}
+use Rattle.std.proofs.lemmas.List.{length-reverse}
+use Rattle.dets_term.specs.TermValue.{TermValue, chain, elements, depth}
+use Rattle.etf_codec.specs.declared.fault.EtfFault.{EtfFault}
+use Rattle.etf_codec.specs.declared.fault.EtfFault.TheVariants.{Memory}
+use Rattle.etf_codec.specs.declared.frame.Begun.{Begun}
+use Rattle.etf_codec.specs.declared.frame.Frame.{Frame}
+use Rattle.etf_codec.specs.declared.frame.Frame.TheVariants.{Element, Item, Tail, Key, Value}
+use Rattle.etf_codec.specs.declared.head.Head.TheVariants.{Whole, Begun as Opened}
+use Rattle.etf_codec.specs.Format.{Place, Reading, go_on}
+use Rattle.etf_codec.specs.Machine.{levels_below, map_behind, resume, wanted_by, wanted, reading_at}
+use Rattle.etf_codec.specs.Begun.{FrameFits, PartFits, MayBegin, AreBegun, MayCome}
+use Rattle.etf_codec.specs.Heads.{parts_read, HeadReads, HeadFits}
+use Rattle.etf_codec.specs.ReadTerms.{body_of}
+use Rattle.etf_codec.specs.Spelling.{part_at, tail_at}
+use Rattle.etf_codec.specs.Tags.{terms_at, next_in, next_position, TagReads, BeginsTail}
+use Rattle.etf_codec.specs.TermReader.{IsNest, Completes, NextReads}
+use Rattle.dets_term.specs.Pairs.{placed}
+use Rattle.etf_codec.proofs.Bytes.{go_on_ok, go_on_err}
+use Rattle.etf_codec.proofs.GoOn.{go_on_twice}
+use Rattle.etf_codec.proofs.Resuming.{part_anywhere, tail_anywhere, element_first, item_first, key_first}
+
+-- ---- what is wanted
+
+by_frame : (f : Frame) (n o : ℕ) (place : Place) → (wanted_by f n).read o place ≡ (terms_at (next_in f) n).read o place
+by_frame (Element ahead ts) n o place = refl
+by_frame (Item ahead ts) n o place = refl
+by_frame (Tail ts) n o place = refl
+by_frame (Key ahead ps) n o place = refl
+by_frame (Value ahead ps k) n o place = refl
+
+wanted_terms : (bs : List Begun) → length bs ≤ 255 → (place : Place) → (wanted bs).read place.offset place ≡ (terms_at (next_position bs) (suc (255 - length bs))).read place.offset place
+wanted_terms [] l place = refl
+wanted_terms (b ∷ bs) l place =
+    let levels : levels_below (b ∷ bs) ≡ suc (255 - length (b ∷ bs)) = omega (arith, l) in
+    by_frame b.frame (levels_below (b ∷ bs)) place.offset place ∙ ap (λ n. (terms_at (next_in b.frame) n).read place.offset place) levels
+
+-- reading goes on behind the tag
+pub behind_tag_at : (bs : List Begun) (place next : Place) (tag : ℕ) → length bs ≤ 255 → TagReads (next_position bs) place next (Ok tag)
+    → reading_at bs place ≡ go_on ((body_of (255 - length bs) tag).read place.offset next) (λ t behind. resume bs place.offset t behind)
+behind_tag_at bs place next tag l reads =
+    ap (λ r. go_on r (λ t behind. resume bs place.offset t behind))
+        (wanted_terms bs l place ∙ reads (suc (255 - length bs)) (omega arith)
+        ∙ ap (λ n. (body_of n tag).read place.offset next) (let e : suc (255 - length bs) - 1 ≡ 255 - length bs = omega arith in e))
+
+pub no_tag_at : (bs : List Begun) (place next : Place) (fault : EtfFault) → length bs ≤ 255 → TagReads (next_position bs) place next (Err fault) → reading_at bs place ≡ Err fault
+no_tag_at bs place next fault l reads = go_on_err _ _ _ (wanted_terms bs l place ∙ reads (suc (255 - length bs)) (omega arith))
+
+-- ---- a term that is begun
+
+pub first_part : (frame : Frame) (start : ℕ) (bs : List Begun) (place : Place)
+    → go_on (parts_read frame (levels_below (record { start = start; frame = frame } ∷ bs)) start place) (λ whole behind. resume bs start whole behind)
+    ≡ reading_at (record { start = start; frame = frame } ∷ bs) place
+first_part (Element n ts) start bs place = element_first n start ts bs place
+first_part (Item n ts) start bs place = item_first n start ts bs place
+first_part (Tail ts) start bs place =
+    let levels = levels_below (record { start = start; frame = Tail ts } ∷ bs) in
+    go_on_twice ((tail_at levels).read start place) (λ end b. Ok (chain ts end, b)) (λ whole b. resume bs start whole b)
+    ∙ ap (λ r. go_on r (λ end b. resume bs start (chain ts end) b)) (tail_anywhere levels start place.offset place)
+first_part (Key n ps) start bs place = key_first n start ps bs place
+first_part (Value n ps k) start bs place =
+    let levels = levels_below (record { start = start; frame = Value n ps k } ∷ bs) in
+    go_on_twice ((part_at levels).read start place) (λ v b. (map_behind levels (placed (k, v) ps) n).read start b) (λ whole b. resume bs start whole b)
+    ∙ ap (λ r. go_on r (λ v b. go_on ((map_behind levels (placed (k, v) ps) n).read start b) (λ whole b. resume bs start whole b))) (part_anywhere levels start place.offset place)
+
+pub opens : (bs : List Begun) (frame : Frame) (start : ℕ) (tag : ℕ) (next behind : Place) → length bs ≤ 254
+    → (body_of (255 - length bs) tag).read start next ≡ parts_read frame (255 - length bs) start behind
+    → go_on ((body_of (255 - length bs) tag).read start next) (λ t b. resume bs start t b) ≡ reading_at (record { start = start; frame = frame } ∷ bs) behind
+opens bs frame start tag next behind l e =
+    let levels : 255 - length bs ≡ levels_below (record { start = start; frame = frame } ∷ bs) = omega (arith, l) in
+    ap (λ r. go_on r (λ t b. resume bs start t b)) (e ∙ ap (λ n. parts_read frame n start behind) levels) ∙ first_part frame start bs behind
+
+-- ---- limits
+
+no_list : (outer : Frame) (levels : ℕ) (t : TermValue) (tag : ℕ) → depth t ≤ levels → BeginsTail (next_in outer) (Ok tag) → (tag ≢ 107 → tag ≢ 108 → elements t ≡ []) → PartFits outer levels t
+no_list (Element n ts) levels t tag d b e = d
+no_list (Item n ts) levels t tag d b e = d
+no_list (Tail ts) levels t tag d b e = (d, e b.0 b.1)
+no_list (Key n ps) levels t tag d b e = d
+no_list (Value n ps k) levels t tag d b e = d
+
+pub whole_may_come : (bs : List Begun) (t : TermValue) (tag : ℕ) → length bs ≤ 255 → BeginsTail (next_position bs) (Ok tag) → HeadFits tag (255 - length bs) (Ok (Whole t)) → MayCome bs t
+whole_may_come [] t tag l b h = omega (arith, h.0)
+whole_may_come (c ∷ bs) t tag l b h = no_list c.frame (levels_below (c ∷ bs)) t tag (omega (arith, h.0, l)) b h.1
+
+may_open : (outer frame : Frame) (tag : ℕ) → BeginsTail (next_in outer) (Ok tag) → (tag ≢ 108 → (outer : Frame) → MayBegin outer frame) → MayBegin outer frame
+may_open (Element n ts) (Element m us) tag b h = tt
+may_open (Element n ts) frame tag b h = tt
+may_open (Item n ts) frame tag b h = tt
+may_open (Tail ts) frame tag b h = h b.1 (Tail ts)
+may_open (Key n ps) frame tag b h = tt
+may_open (Value n ps k) frame tag b h = tt
+
+pub opened : (bs : List Begun) (frame : Frame) (start tag : ℕ) → length bs ≤ 255 → AreBegun bs → BeginsTail (next_position bs) (Ok tag) → HeadFits tag (255 - length bs) (Ok (Opened frame))
+    → (length bs ≤ 254) × AreBegun (record { start = start; frame = frame } ∷ bs)
+opened [] frame start tag l begun b h = (omega arith, h.1)
+opened (c ∷ bs) frame start tag l begun b h =
+    let few : length (c ∷ bs) ≤ 254 = omega (arith, h.0, l) in
+    let levels : 255 - length (c ∷ bs) ≡ levels_below (record { start = start; frame = frame } ∷ c ∷ bs) = omega (arith, l) in
+    (few, (subst (FrameFits frame) levels h.1, may_open c.frame frame tag b h.2, begun))
+
+-- ---- one part
+
+module _ (old : List Begun) (len start : ℕ) (before : Place) (l : len ≡ length old) (nest : IsNest old) (s : start ≡ before.offset) where
+  few : length (reverse old) ≤ 255
+  few = omega (arith, length-reverse old, nest.0)
+
+  levels_are : 255 - len ≡ 255 - length (reverse old)
+  levels_are = omega (arith, l, length-reverse old)
+
+  pub no_tag_here : (position : Position) (mid : Place) (fault : EtfFault) → position ≡ next_position (reverse old) → TagReads position before mid (Err fault) → reading_at (reverse old) before ≡ Err fault
+  no_tag_here position mid fault p reads = no_tag_at (reverse old) before mid fault few (subst (λ q. TagReads q before mid (Err fault)) p reads)
+
+  module _ (position : Position) (p : position ≡ next_position (reverse old)) (mid : Place) (tag : ℕ) (reads : TagReads position before mid (Ok tag)) where
+    here : reading_at (reverse old) before ≡ go_on ((body_of (255 - length (reverse old)) tag).read start mid) (λ t behind. resume (reverse old) start t behind)
+    here =
+        behind_tag_at (reverse old) before mid tag few (subst (λ q. TagReads q before mid (Ok tag)) p reads)
+        ∙ ap (λ o. go_on ((body_of (255 - length (reverse old)) tag).read o mid) (λ t behind. resume (reverse old) o t behind)) (sym s)
+
+    pub whole_here : (behind : Place) (t : TermValue) → HeadReads (body_of (255 - len) tag) (255 - len) start mid behind (Ok (Whole t))
+        → reading_at (reverse old) before ≡ resume (reverse old) start t behind
+    whole_here behind t h = here ∙ go_on_ok _ _ _ _ (subst (λ n. (body_of n tag).read start mid ≡ Ok (t, behind)) levels_are h)
+
+    pub open_here : (behind : Place) (frame : Frame) → length (reverse old) ≤ 254 → HeadReads (body_of (255 - len) tag) (255 - len) start mid behind (Ok (Opened frame))
+        → reading_at (reverse old) before ≡ reading_at (record { start = start; frame = frame } ∷ reverse old) behind
+    open_here behind frame room h =
+        here ∙ opens (reverse old) frame start tag mid behind room (subst (λ n. (body_of n tag).read start mid ≡ parts_read frame n start behind) levels_are h)
+
+    pub fault_here : (behind : Place) (fault : EtfFault) → HeadReads (body_of (255 - len) tag) (255 - len) start mid behind (Err fault) → (fault ≡ Memory) ⊎ (reading_at (reverse old) before ≡ Err fault)
+    fault_here behind fault (inl h) = inl h
+    fault_here behind fault (inr h) = inr (here ∙ go_on_err _ _ _ (subst (λ n. (body_of n tag).read start mid ≡ Err fault) levels_are h))
+
+    pub comes_here : (t : TermValue) → BeginsTail position (Ok tag) → HeadFits tag (255 - len) (Ok (Whole t)) → MayCome (reverse old) t
+    comes_here t b h = whole_may_come (reverse old) t tag few (subst (λ q. BeginsTail q (Ok tag)) p b) (subst (λ n. HeadFits tag n (Ok (Whole t))) levels_are h)
+
+    pub opened_here : (frame : Frame) → BeginsTail position (Ok tag) → HeadFits tag (255 - len) (Ok (Opened frame)) → (length (reverse old) ≤ 254) × AreBegun (record { start = start; frame = frame } ∷ reverse old)
+    opened_here frame b h = opened (reverse old) frame start tag few nest.1 (subst (λ q. BeginsTail q (Ok tag)) p b) (subst (λ n. HeadFits tag n (Ok (Opened frame))) levels_are h)
+
+pub next_whole : (old new : List Begun) (before behind : Place) (start : ℕ) (t : TermValue) (answer : Result (Option TermValue) EtfFault)
+    → reading_at (reverse old) before ≡ resume (reverse old) start t behind → Completes old new start t answer → NextReads old new before behind answer
+next_whole old new before behind start t (Ok (Some whole)) e c = e ∙ c.1 behind
+next_whole old new before behind start t (Ok None) e c = (c.0, e ∙ c.1 behind)
+next_whole old new before behind start t (Err fault) e (inl h) = inl h
+next_whole old new before behind start t (Err fault) e (inr h) = inr (e ∙ h behind)
+
+pub next_open : (old new : List Begun) (before behind : Place) (b : Begun) → IsNest old → reverse new ≡ b ∷ reverse old → length (reverse old) ≤ 254 → AreBegun (b ∷ reverse old)
+    → reading_at (reverse old) before ≡ reading_at (b ∷ reverse old) behind → NextReads old new before behind (Ok None)
+next_open old new before behind b nest n room begun e =
+    ((omega (arith, ap length n, length-reverse new, room), subst AreBegun (sym n) begun), e ∙ ap (λ bs. reading_at bs behind) (sym n))
+
+pub next_fault : (old new : List Begun) (before behind : Place) (answer : Result (Option TermValue) EtfFault) (fault : EtfFault) → IsErrAnd answer (λ y. y ≡ fault)
+    → (fault ≡ Memory) ⊎ (reading_at (reverse old) before ≡ Err fault) → NextReads old new before behind answer
+next_fault old new before behind (Ok x) fault h e = absurd h
+next_fault old new before behind (Err y) fault h (inl e) = inl (h ∙ e)
+next_fault old new before behind (Err y) fault h (inr e) = inr (e ∙ ap Err (sym h))
