@@ -1,5 +1,5 @@
 -- The next part of what is begun.
-use Rattle.std.proofs.Common.{◌≡◌, ℕ, zero, suc, ◌+◌, ◌-◌, ◌<◌, ◌≤◌, List, [], ◌∷◌, length, Result, Ok, Err, refl, ap, sym, ◌∙◌, subst, arith}
+use Rattle.std.proofs.Common.{◌≡◌, ℕ, zero, suc, ◌+◌, ◌-◌, ◌<◌, ◌≤◌, cond, ◌==◌, List, [], ◌∷◌, length, Result, Ok, Err, refl, ap, sym, ◌∙◌, subst, arith}
 use Rattle.std.specs.Prelude.{reverse, ◌⊎◌, ◌≢◌, Option, Some, None}
 use Rattle.etf_codec.specs.declared.tags.Position.{Position}
 use Rattle.std.specs.Result.{IsErrAnd}
@@ -7,7 +7,7 @@ use mathlib.Core.Logic.{inl, inr}
 use Rattle.std.proofs.lemmas.List.{length-reverse}
 use Rattle.dets_term.specs.TermValue.{TermValue, chain, elements, depth}
 use Rattle.etf_codec.specs.declared.fault.EtfFault.{EtfFault}
-use Rattle.etf_codec.specs.declared.fault.EtfFault.TheVariants.{Memory}
+use Rattle.etf_codec.specs.declared.fault.EtfFault.TheVariants.{Memory, Unsupported, Compressed}
 use Rattle.etf_codec.specs.declared.frame.Begun.{Begun}
 use Rattle.etf_codec.specs.declared.frame.Frame.{Frame}
 use Rattle.etf_codec.specs.declared.frame.Frame.TheVariants.{Element, Item, Tail, Key, Value}
@@ -17,12 +17,14 @@ use Rattle.etf_codec.specs.Machine.{levels_below, map_behind, resume, wanted_by,
 use Rattle.etf_codec.specs.Begun.{FrameFits, PartFits, MayBegin, AreBegun, MayCome}
 use Rattle.etf_codec.specs.Heads.{parts_read, HeadReads, HeadFits}
 use Rattle.etf_codec.specs.ReadTerms.{body_of}
-use Rattle.etf_codec.specs.Spelling.{part_at, tail_at}
+use Rattle.etf_codec.specs.Layout.{is_known}
+use Rattle.etf_codec.specs.Reads.{ReadsWithin}
+use Rattle.etf_codec.specs.Spelling.{part_at, tail_at, outermost}
 use Rattle.etf_codec.specs.Tags.{terms_at, next_in, next_position, TagReads, BeginsTail}
 use Rattle.etf_codec.specs.TermReader.{IsNest, Completes, NextReads}
 use Rattle.dets_term.specs.Pairs.{placed}
 use Rattle.etf_codec.proofs.Bytes.{go_on_ok, go_on_err}
-use Rattle.etf_codec.proofs.GoOn.{go_on_twice}
+use Rattle.etf_codec.proofs.GoOn.{go_on_twice, whichever_term}
 use Rattle.etf_codec.proofs.Resuming.{part_anywhere, tail_anywhere, element_first, item_first, key_first}
 
 -- ---- what is wanted
@@ -158,3 +160,33 @@ pub next_fault : (old new : List Begun) (before behind : Place) (answer : Result
 next_fault old new before behind (Ok x) fault h e = absurd h
 next_fault old new before behind (Err y) fault h (inl e) = inl (h ∙ e)
 next_fault old new before behind (Err y) fault h (inr e) = inr (e ∙ ap Err (sym h))
+
+-- ---- the first term
+
+whole_reading : {A : Type 0} (r : Reading A) → r ≡ go_on r (λ x behind. Ok (x, behind))
+whole_reading (Ok r) = refl
+whole_reading (Err fault) = refl
+
+pub first_reading : (place : Place) → outermost.read place.offset place ≡ reading_at [] place
+first_reading place = whole_reading (outermost.read place.offset place)
+
+first_anywhere : (s t : ℕ) (place : Place) → outermost.read s place ≡ outermost.read t place
+first_anywhere s t place = whichever_term is_known (λ term x. cond (x == 80) (Compressed term) (Unsupported term x)) 256 s t place
+
+-- a term that was read from the first place on, or a fault
+pub read_whole : (begun new : List Begun) (before now behind : Place) (term : ℕ) (t : TermValue) → outermost.read before.offset before ≡ reading_at (reverse begun) now → NextReads begun new now behind (Ok (Some t))
+    → outermost.read term before ≡ Ok (t, behind)
+read_whole begun new before now behind term t e h = first_anywhere term before.offset before ∙ e ∙ h
+
+pub read_on : (begun new : List Begun) (before now behind : Place) → outermost.read before.offset before ≡ reading_at (reverse begun) now → NextReads begun new now behind (Ok None)
+    → IsNest new × (outermost.read before.offset before ≡ reading_at (reverse new) behind)
+read_on begun new before now behind e h = (h.0, e ∙ h.1)
+
+pub read_fault : (begun new : List Begun) (before now behind last : Place) (term : ℕ) (answer : Result TermValue EtfFault) (fault : EtfFault) → IsErrAnd answer (λ y. y ≡ fault)
+    → outermost.read before.offset before ≡ reading_at (reverse begun) now → NextReads begun new now behind (Err fault) → ReadsWithin outermost term before last answer
+read_fault begun new before now behind last term (Ok x) fault h e n = absurd h
+read_fault begun new before now behind last term (Err y) fault h e (inl n) = inl (h ∙ n)
+read_fault begun new before now behind last term (Err y) fault h e (inr n) = inr (first_anywhere term before.offset before ∙ e ∙ n ∙ ap Err (sym h))
+
+pub nothing_begun : (begun : List Begun) (place : Place) → begun ≡ [] → IsNest begun × (outermost.read place.offset place ≡ reading_at (reverse begun) place)
+nothing_begun begun place e = subst (λ (bs : List Begun). IsNest bs × (outermost.read place.offset place ≡ reading_at (reverse bs) place)) (sym e) ((omega arith, tt), first_reading place)

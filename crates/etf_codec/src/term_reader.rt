@@ -23,8 +23,9 @@ pub(crate) fn read_outermost(alloc: Global, cursor: &mut Cursor<'_>) -> Result<T
     // Each turn takes a byte at least, so these are never too few.
     for _ in 0..u64::MAX {
         let answer = read_next(alloc, cursor, &mut begun)?;
-        if let Some(term) = answer {
-            return Ok(term);
+        match answer {
+            Some(term) => return Ok(term),
+            None => {}
         }
     }
     Err(EtfFault::Memory)
