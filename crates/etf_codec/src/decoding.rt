@@ -1,18 +1,13 @@
 //! Decoding of spellings.
-ghost use Rattle.std.specs.Prelude.{ℕ};
 ghost use Rattle.etf_codec.specs.Decoding.{IsDecoding};
 ghost use Rattle.etf_codec.specs.Reads.{ReadsWithin};
-ghost use Rattle.etf_codec.specs.Spelling.{outermost, spelling};
+ghost use Rattle.etf_codec.specs.Spelling.{spelling};
 
 use crate::EtfFault;
 use crate::cursor::Cursor;
-use crate::tags::{is_known_tag, unknown_tag};
-use crate::terms::read_body;
+use crate::term_reader::read_outermost;
 use dets_term::Term;
 use std::alloc::Global;
-
-/// How many levels are left below the first term.
-const LEVELS: u32 = 255;
 
 /// The term that stands in front of some bytes, and how many bytes spell it. Bytes behind them are not looked at.
 ///
@@ -36,18 +31,6 @@ fn read_spelling(alloc: Global, cursor: &mut Cursor<'_>) -> Result<Term, EtfFaul
         return Err(EtfFault::NotVersion(start));
     }
     read_outermost(alloc, cursor)
-}
-
-/// The first term.
-fn read_outermost(alloc: Global, cursor: &mut Cursor<'_>) -> Result<Term, EtfFault>
-    ensures { (term : ℕ) → ReadsWithin outermost term cursor.old cursor.new result }
-{
-    let start = cursor.offset();
-    let tag = cursor.byte()?;
-    if !is_known_tag(tag) {
-        return Err(unknown_tag(start, tag));
-    }
-    read_body(alloc, cursor, tag, LEVELS, start)
 }
 
 #[cfg(test)]

@@ -33,4 +33,3 @@ pub mod skipping_laws;
 mod strings;
 mod tags;
 mod term_reader;
-mod terms;
