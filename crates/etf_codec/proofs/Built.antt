@@ -52,7 +52,3 @@ depth-integers_levels bytes (suc levels) h = omega (arith, depth-integers bytes)
 pub IfOk-shallow : {E : Type 0} (r : Result TermValue E) (value : TermValue) (n : ℕ) → IfOk r (λ t. t ≡ value) → depth value ≤ n → IfOk r (λ t. depth t ≤ n)
 IfOk-shallow (Ok t) value n ok h = omega (arith, h, ap depth ok)
 IfOk-shallow (Err fault) value n ok h = tt
-
-pub IfOk-leaf : {E : Type 0} (r : Result TermValue E) (n : ℕ) → IfOk r IsLeaf → IfOk r (λ t. depth t ≤ suc n)
-IfOk-leaf (Ok t) n leaf = omega (arith, leaf.0)
-IfOk-leaf (Err fault) n leaf = tt

@@ -35,10 +35,6 @@ pub whichever_term : (test : ℕ → Bool) (fault : ℕ → ℕ → EtfFault) (l
 whichever_term test fault zero s t place = refl
 whichever_term test fault (suc levels) s t place = refl
 
--- a value changed by two functions that agree
-pub changed-same : {A B : Type 0} (F : Format A) (f g : A → B) (start : ℕ) (place : Place) → ((x : A) → f x ≡ g x) → (changed F f).read start place ≡ (changed F g).read start place
-changed-same F f g start place h = go_on_same (F.read start place) (λ x b. Ok (f x, b)) (λ x b. Ok (g x, b)) (λ x b. ap (λ y. Ok (y, b)) (h x))
-
 -- the first of some, the others, and then what stands behind them
 last_part : {A B C : Type 0} (r : Reading (List A)) (u : A) (next : List A → Place → Reading B) (R : B → Place → Reading C)
     → go_on (go_on (go_on r (λ us b. Ok (u ∷ us, b))) next) R ≡ go_on (go_on r (λ us b. next (u ∷ us) b)) R

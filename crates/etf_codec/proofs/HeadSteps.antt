@@ -67,9 +67,6 @@ fits_as tag other levels (Ok (Whole t)) n m h = (h.0, λ x y. h.1 m n)
 fits_as tag other levels (Ok (Begun frame)) n m h = (h.0, h.1, λ x. h.2 n)
 fits_as tag other levels (Err fault) n m h = tt
 
-pub list_fits_as : (tag levels : ℕ) (answer : Result Head EtfFault) → tag ≡ 108 → HeadFits 108 levels answer → HeadFits tag levels answer
-list_fits_as tag levels answer e h = subst (λ t. HeadFits t levels answer) (sym e) h
-
 -- room for a part where there is one
 pub room : (levels n : ℕ) → (levels ≡ 0 → n ≡ 0) → 0 < n → 1 ≤ levels
 room zero n h p = absurd (omega (arith, h refl))

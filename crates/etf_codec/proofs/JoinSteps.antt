@@ -156,10 +156,6 @@ map_made ps qs levels e up fits room =
     let order = ascending_is_by_key qs qs (IsPermutation-refl qs) up in
     ap map_built e ∙ map_built_within qs order.0 order.1 (omega (arith, fits.1)) (omega (arith, depth-map_of qs levels fits.0))
 
--- what is said of a begun term by its frame
-pub joins_as : (b : Begun) (frame : Frame) (at : ℕ) (part : TermValue) (r : Result Joined EtfFault) → b.frame ≡ frame → JoinsTo (record { start = b.start; frame = frame }) at part r → JoinsTo b at part r
-joins_as b frame at part r e h = subst (λ f. JoinsTo (record { start = b.start; frame = f }) at part r) (sym e) h
-
 pub within_as : (b : Begun) (frame : Frame) (part : TermValue) (r : Result Joined EtfFault) → b.frame ≡ frame
     → ((levels : ℕ) → levels ≤ 255 → FrameFits frame levels → PartFits frame levels part → JoinsWithin (record { start = b.start; frame = frame }) levels r)
     → (levels : ℕ) → levels ≤ 255 → FrameFits b.frame levels → PartFits b.frame levels part → JoinsWithin b levels r

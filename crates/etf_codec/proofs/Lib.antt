@@ -19,11 +19,9 @@ pub mod Sharpness
 pub mod Moving
 pub mod Built
 pub mod Bodies
-pub mod Collecting
 pub mod PairOrder
 pub mod SortedPairs
 pub mod TermSteps
-pub mod PairsRead
 pub mod Decodings
 pub mod WantOfMemory
 pub mod SpellingKept

@@ -47,8 +47,8 @@ pub behind_tag_at : (bs : List Begun) (place next : Place) (tag : ℕ) → lengt
     → reading_at bs place ≡ go_on ((body_of (255 - length bs) tag).read place.offset next) (λ t behind. resume bs place.offset t behind)
 behind_tag_at bs place next tag l reads =
     ap (λ r. go_on r (λ t behind. resume bs place.offset t behind))
-        (wanted_terms bs l place ∙ reads (suc (255 - length bs)) (omega arith)
-        ∙ ap (λ n. (body_of n tag).read place.offset next) (let e : suc (255 - length bs) - 1 ≡ 255 - length bs = omega arith in e))
+    (wanted_terms bs l place ∙ reads (suc (255 - length bs)) (omega arith)
+    ∙ ap (λ n. (body_of n tag).read place.offset next) (let e : suc (255 - length bs) - 1 ≡ 255 - length bs = omega arith in e))
 
 pub no_tag_at : (bs : List Begun) (place next : Place) (fault : EtfFault) → length bs ≤ 255 → TagReads (next_position bs) place next (Err fault) → reading_at bs place ≡ Err fault
 no_tag_at bs place next fault l reads = go_on_err _ _ _ (wanted_terms bs l place ∙ reads (suc (255 - length bs)) (omega arith))

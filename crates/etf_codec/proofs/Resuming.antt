@@ -46,10 +46,6 @@ element_more n start at ts t begun place =
     ap (λ (f : List TermValue → TermValue). go_on ((changed (times (suc n) (part_at levels)) f).read start place) (λ whole behind. resume begun start whole behind)) (fun_ext same)
     ∙ element_first n start (ts ++ t ∷ []) begun place
 
-pub element_last : (start at : ℕ) (ts : List TermValue) (t : TermValue) (begun : List Begun) (place : Place)
-    → resume (record { start = start; frame = Element 0 ts } ∷ begun) at t place ≡ resume begun start (tuple (chain (ts ++ t ∷ []) nil)) place
-element_last start at ts t begun place = refl
-
 -- ---- lists
 
 pub item_first : (n start : ℕ) (ts : List TermValue) (begun : List Begun) (place : Place)
@@ -79,18 +75,7 @@ item_last start at ts t begun place =
     go_on_twice ((tail_at levels).read start place) (λ end b. Ok (chain (ts ++ t ∷ []) end, b)) (λ whole behind. resume begun start whole behind)
     ∙ ap (λ r. go_on r (λ end b. resume begun start (chain (ts ++ t ∷ []) end) b)) (tail_anywhere levels start place.offset place)
 
-pub tail_last : (start at : ℕ) (ts : List TermValue) (t : TermValue) (begun : List Begun) (place : Place)
-    → resume (record { start = start; frame = Tail ts } ∷ begun) at t place ≡ resume begun start (chain ts t) place
-tail_last start at ts t begun place = refl
-
 -- ---- maps
-
-pub key_known : (n start at : ℕ) (pairs : List (TermValue × TermValue)) (k : TermValue) (begun : List Begun) (place : Place) → list_any (is_same k) (keys pairs) ≡ true
-    → resume (record { start = start; frame = Key n pairs } ∷ begun) at k place ≡ Err (RepeatedKey at)
-key_known n start at pairs k begun place e =
-    let levels = levels_below (record { start = start; frame = Key n pairs } ∷ begun) in
-    ap (λ known. go_on (cond (not known) ((followed (part_at levels) (λ v. map_behind levels (placed (k, v) pairs) n)).read start place) (Err (RepeatedKey at)))
-    (λ whole behind. resume begun start whole behind)) e
 
 pub key_new : (n start at : ℕ) (pairs : List (TermValue × TermValue)) (k : TermValue) (begun : List Begun) (place : Place) → list_any (is_same k) (keys pairs) ≡ false
     → resume (record { start = start; frame = Key n pairs } ∷ begun) at k place ≡ reading_at (record { start = start; frame = Value n pairs k } ∷ begun) place
@@ -126,7 +111,3 @@ key_first n start pairs begun place =
 pub value_more : (n start at : ℕ) (pairs : List (TermValue × TermValue)) (k v : TermValue) (begun : List Begun) (place : Place)
     → resume (record { start = start; frame = Value (suc n) pairs k } ∷ begun) at v place ≡ reading_at (record { start = start; frame = Key n (placed (k, v) pairs) } ∷ begun) place
 value_more n start at pairs k v begun place = key_first n start (placed (k, v) pairs) begun place
-
-pub value_last : (start at : ℕ) (pairs : List (TermValue × TermValue)) (k v : TermValue) (begun : List Begun) (place : Place)
-    → resume (record { start = start; frame = Value 0 pairs k } ∷ begun) at v place ≡ resume begun start (map_of (placed (k, v) pairs)) place
-value_last start at pairs k v begun place = refl

@@ -46,13 +46,6 @@ pub list_none : (levels term n : ℕ) (place next : Place) → (count levels 4).
 list_none levels term n place next e none =
     go_on_ok _ _ _ _ (e ∙ ap (λ k. Ok (k, next)) none) ∙ again (no_tail.read term next)
 
--- with elements it ends in its tail
-pub list_tail : (levels term n : ℕ) (place : Place) (ts : List TermValue) → n ≢ 0
-    → (changed (either (n == 0) no_tail (tail_at levels)) (λ end. chain ts end)).read term place ≡ (changed (tail_at levels) (λ end. chain ts end)).read term place
-list_tail levels term n place ts some =
-    let apart : (n == 0) ≡ false = grind (arith, nat_tests) in
-    ap (λ b. (changed (either b no_tail (tail_at levels)) (λ end. chain ts end)).read term place) apart
-
 below : (b : Bool) (n : ℕ) → cond b n (suc n) ≤ suc n
 below true n = omega arith
 below false n = omega arith

@@ -33,7 +33,11 @@ pub(crate) fn read_outermost(alloc: Global, cursor: &mut Cursor<'_>) -> Result<T
 
 /// The next part of the innermost begun term, up to its own first part. `None` where there is more to read, else the
 /// outermost term.
-fn read_next(alloc: Global, cursor: &mut Cursor<'_>, begun: &mut Vec<Begun>) -> Result<Option<Term>, EtfFault>
+fn read_next(
+    alloc: Global,
+    cursor: &mut Cursor<'_>,
+    begun: &mut Vec<Begun>,
+) -> Result<Option<Term>, EtfFault>
     requires { IsNest begun.old.items }
     ensures { NextReads begun.old.items begun.new.items cursor.old cursor.new result }
 {
@@ -75,7 +79,12 @@ fn next_in(frame: &Frame) -> Position
 
 /// Joins a part that begins at an offset to the innermost begun term, and each term that is whole by it to the one around
 /// it. `None` where a next part is to be read.
-fn complete(alloc: Global, begun: &mut Vec<Begun>, start: u64, part: Term) -> Result<Option<Term>, EtfFault>
+fn complete(
+    alloc: Global,
+    begun: &mut Vec<Begun>,
+    start: u64,
+    part: Term,
+) -> Result<Option<Term>, EtfFault>
     requires nest { IsNest begun.old.items }
     requires part { MayCome (reverse begun.old.items) part }
     ensures { Completes begun.old.items begun.new.items start part result }

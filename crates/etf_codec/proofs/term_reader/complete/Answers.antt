@@ -13,17 +13,17 @@ returns-in_err-joined c =
 pub loop-innermost-preserved : goal.loop-innermost-preserved
 loop-innermost-preserved c =
     let step = whole_step c.loop-innermost.begun.items c.pop.new.self.items c.in-Some.innermost c.in-Some.ensures.items c.loop-innermost.invariant.0 c.loop-innermost.term c.loop-innermost.invariant.1
-        c.loop-innermost.at c.in-Whole.start c.in-Whole.whole
-        (subst (λ j. JoinsTo c.in-Some.innermost c.loop-innermost.at c.loop-innermost.term (Ok j)) c.in-Whole.is c.in_ok-joined.ensures.joins)
-        (subst (λ j. (levels : ℕ) → levels ≤ 255 → FrameFits c.in-Some.innermost.frame levels → PartFits c.in-Some.innermost.frame levels c.loop-innermost.term → JoinsWithin c.in-Some.innermost levels (Ok j)) c.in-Whole.is
-        c.in_ok-joined.ensures.within) in
+    c.loop-innermost.at c.in-Whole.start c.in-Whole.whole
+    (subst (λ j. JoinsTo c.in-Some.innermost c.loop-innermost.at c.loop-innermost.term (Ok j)) c.in-Whole.is c.in_ok-joined.ensures.joins)
+    (subst (λ j. (levels : ℕ) → levels ≤ 255 → FrameFits c.in-Some.innermost.frame levels → PartFits c.in-Some.innermost.frame levels c.loop-innermost.term → JoinsWithin c.in-Some.innermost levels (Ok j)) c.in-Whole.is
+    c.in_ok-joined.ensures.within) in
     (step.0, step.1, λ place. c.loop-innermost.invariant.2 place ∙ step.2 place)
 
 pub returns-in-Open : goal.returns-in-Open
 returns-in-Open c =
     let step = open_step c.loop-innermost.begun.items c.pop.new.self.items c.in-Some.innermost c.in-Some.ensures.items c.loop-innermost.invariant.0 c.loop-innermost.term c.loop-innermost.invariant.1
-        c.loop-innermost.at c.in-Open.open c.push_begun.new.begun.items c.in_ok-push_begun-in-Open.ensures.ok
-        (subst (λ j. JoinsTo c.in-Some.innermost c.loop-innermost.at c.loop-innermost.term (Ok j)) c.in-Open.is c.in_ok-joined.ensures.joins)
-        (subst (λ j. (levels : ℕ) → levels ≤ 255 → FrameFits c.in-Some.innermost.frame levels → PartFits c.in-Some.innermost.frame levels c.loop-innermost.term → JoinsWithin c.in-Some.innermost levels (Ok j)) c.in-Open.is
-        c.in_ok-joined.ensures.within) in
+    c.loop-innermost.at c.in-Open.open c.push_begun.new.begun.items c.in_ok-push_begun-in-Open.ensures.ok
+    (subst (λ j. JoinsTo c.in-Some.innermost c.loop-innermost.at c.loop-innermost.term (Ok j)) c.in-Open.is c.in_ok-joined.ensures.joins)
+    (subst (λ j. (levels : ℕ) → levels ≤ 255 → FrameFits c.in-Some.innermost.frame levels → PartFits c.in-Some.innermost.frame levels c.loop-innermost.term → JoinsWithin c.in-Some.innermost levels (Ok j)) c.in-Open.is
+    c.in_ok-joined.ensures.within) in
     (step.0, λ place. c.loop-innermost.invariant.2 place ∙ step.1 place)

@@ -32,7 +32,7 @@ returns-in-Whole c =
 pub returns-in_ok-push_begun-in-Begun : goal.returns-in_ok-push_begun-in-Begun
 returns-in_ok-push_begun-in-Begun c =
     let opened = opened_here c.args.begun.now.items c.len.result c.offset-start.result c.args.cursor.now (omega (arith, c.len.ensures, c.args.begun.now.ok)) c.requires c.offset-start.ensures c.next_position-position.result c.next_position-position.ensures c.read_tag.new.cursor c.in_ok-tag.tag c.in_ok-tag.ensures.reads
-        c.in-Begun.frame c.in_ok-tag.ensures.tail (subst (λ h. HeadFits c.in_ok-tag.tag (255 - c.len.result) (Ok h)) c.in-Begun.is c.in_ok-head.ensures.fits) in
+    c.in-Begun.frame c.in_ok-tag.ensures.tail (subst (λ h. HeadFits c.in_ok-tag.tag (255 - c.len.result) (Ok h)) c.in-Begun.is c.in_ok-head.ensures.fits) in
     next_open c.args.begun.now.items c.push_begun.new.begun.items c.args.cursor.now c.read_head.new.cursor (record { start = c.offset-start.result; frame = c.in-Begun.frame }) c.requires c.in_ok-push_begun-in-Begun.ensures.ok opened.0 opened.1
     (open_here c.args.begun.now.items c.len.result c.offset-start.result c.args.cursor.now (omega (arith, c.len.ensures, c.args.begun.now.ok)) c.requires c.offset-start.ensures c.next_position-position.result c.next_position-position.ensures c.read_tag.new.cursor c.in_ok-tag.tag c.in_ok-tag.ensures.reads
     c.read_head.new.cursor c.in-Begun.frame opened.0
