@@ -7,7 +7,6 @@ use Rattle.dets_term.specs.TermValue.{TermValue, integer, nil, chain, depth}
 use Rattle.dets_term.specs.IsTerm.{built}
 use Rattle.dets_term.specs.Parts.{deepest, parts_depth-chain}
 use Rattle.etf_codec.specs.Layout.{integers}
-use Rattle.etf_codec.specs.ReadTerms.{IsLeaf}
 
 -- within the limits it is the term itself
 pub built_within : (parts : ℕ) (t : TermValue) → parts < 2 ^ 32 → depth t ≤ 256 → built parts t ≡ Ok t

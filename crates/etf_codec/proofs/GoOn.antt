@@ -1,5 +1,5 @@
 -- Reading one thing after another.
-use Rattle.std.proofs.Common.{◌≡◌, ℕ, zero, suc, Bool, List, ◌∷◌, Ok, Err, refl, ap}
+use Rattle.std.proofs.Common.{◌≡◌, ℕ, zero, suc, Bool, List, ◌∷◌, Ok, Err, refl}
 use Rattle.etf_codec.specs.declared.fault.EtfFault.{EtfFault}
 use Rattle.etf_codec.specs.Format.{Format, Place, Reading, go_on, followed, changed, times}
 use Rattle.etf_codec.specs.Spelling.{term_with}

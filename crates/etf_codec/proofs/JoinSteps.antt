@@ -14,7 +14,7 @@ use Rattle.etf_codec.specs.declared.frame.Frame.{Frame}
 use Rattle.etf_codec.specs.declared.frame.Frame.TheVariants.{Element, Item, Tail, Key, Value}
 use Rattle.etf_codec.specs.declared.fault.EtfFault.{EtfFault}
 use Rattle.etf_codec.specs.declared.joining.Joined.{Joined}
-use Rattle.etf_codec.specs.Joins.{JoinsTo, JoinsWithin}
+use Rattle.etf_codec.specs.Joins.{JoinsWithin}
 use Rattle.etf_codec.specs.Format.{Place}
 use Rattle.etf_codec.specs.Machine.{resume, reading_at}
 use Rattle.etf_codec.specs.Begun.{PartsFit, PairsFit, FrameFits, PartFits, MayBegin}

@@ -1,10 +1,10 @@
 -- Begun terms, innermost last.
-use Rattle.std.proofs.Common.{◌≡◌, ℕ, suc, ◌+◌, ◌-◌, ◌≤◌, List, [], ◌∷◌, ◌++◌, length, refl, ap, sym, ◌∙◌, subst, arith}
+use Rattle.std.proofs.Common.{◌≡◌, ℕ, ◌+◌, ◌-◌, ◌≤◌, List, [], ◌∷◌, ◌++◌, length, ap, sym, ◌∙◌, subst, arith}
 use Rattle.std.specs.Prelude.{reverse, Option, Result, Ok, Err, ◌⊎◌}
 use Rattle.std.specs.Result.{IsErrAnd}
 use mathlib.Core.Logic.{inl, inr}
 use Rattle.std.proofs.lemmas.List.{reverse-append, length-append, length-reverse}
-use Rattle.dets_term.specs.TermValue.{TermValue, elements, depth}
+use Rattle.dets_term.specs.TermValue.{TermValue, depth}
 use Rattle.etf_codec.specs.declared.fault.EtfFault.{EtfFault}
 use Rattle.etf_codec.specs.declared.fault.EtfFault.TheVariants.{Memory}
 use Rattle.etf_codec.specs.declared.joining.Joined.TheVariants.{Whole, Open}
@@ -12,7 +12,6 @@ use Rattle.etf_codec.specs.Format.{Place}
 use Rattle.etf_codec.specs.Joins.{JoinsTo, JoinsWithin}
 use Rattle.etf_codec.specs.declared.frame.Begun.{Begun}
 use Rattle.etf_codec.specs.declared.frame.Frame.{Frame}
-use Rattle.etf_codec.specs.declared.frame.Frame.TheVariants.{Element, Item, Tail, Key, Value}
 use Rattle.etf_codec.specs.Machine.{levels_below, resume, reading_at}
 use Rattle.etf_codec.specs.Begun.{FrameFits, PartFits, MayBegin, AreBegun, MayCome}
 use Rattle.etf_codec.specs.TermReader.{IsNest, Completes}

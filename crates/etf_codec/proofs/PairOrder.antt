@@ -1,18 +1,20 @@
 -- Pairs by ascending key, where no key stands twice.
-use Rattle.std.proofs.Common.{◌≡◌, ℕ, suc, ◌<◌, ◌≤◌, ◌^◌, max, Bool, true, false, cond, ◌&&◌, ◌||◌, List, [], ◌∷◌, length, Ok, Err, nat_lt, refl, ap, sym, ◌∙◌, arith}
+use Rattle.std.proofs.Common.{◌≡◌, ℕ, suc, ◌<◌, ◌≤◌, ◌^◌, max, Bool, true, false, cond, ◌&&◌, List, [], ◌∷◌, length, Ok, Err, nat_lt, refl, ap, ◌∙◌, arith}
 use Rattle.std.proofs.lemmas.Bool.Decides.{nat_tests}
-use Rattle.std.specs.List.{list_any}
-use Rattle.std.specs.declared.cmp.Ordering.{Ordering}
-use Rattle.std.specs.declared.cmp.Ordering.TheVariants.{Less, Equal, Greater}
-use Rattle.std.specs.Ordering.{is_lt, is_eq, ordering_reverse}
+use Rattle.std.specs.Ordering.{is_lt}
 use Rattle.dets_term.specs.declared.term.TermFault.TheVariants.{RepeatedKey}
 use Rattle.dets_term.specs.TermValue.{TermValue, map_of, depth}
 use Rattle.dets_term.specs.IsTerm.{built}
-use Rattle.dets_term.specs.Order.{order, is_same}
-use Rattle.dets_term.specs.OrderCode.{order_total}
+use Rattle.dets_term.specs.Order.{order}
 use Rattle.dets_term.specs.Pairs.{keys, placed, by_key, repeats, map_built}
 use Rattle.dets_term.specs.Parts.{deepest_of_pairs, parts_depth-map_of}
 use Rattle.etf_codec.proofs.Built.{built_within}
+
+placed_lt : (p x : TermValue × TermValue) (xs : List (TermValue × TermValue)) → is_lt (order p.0 x.0) ≡ true → placed p (x ∷ xs) ≡ p ∷ x ∷ xs
+placed_lt p x xs e = ap (λ b. cond b (p ∷ x ∷ xs) (x ∷ placed p xs)) e
+
+placed_ge : (p x : TermValue × TermValue) (xs : List (TermValue × TermValue)) → is_lt (order p.0 x.0) ≡ false → placed p (x ∷ xs) ≡ x ∷ placed p xs
+placed_ge p x xs e = ap (λ b. cond b (p ∷ x ∷ xs) (x ∷ placed p xs)) e
 
 pub length-placed : (p : TermValue × TermValue) (xs : List (TermValue × TermValue)) → length (placed p xs) ≡ suc (length xs)
 length-placed p [] = refl

@@ -1,12 +1,11 @@
 -- Terms with parts, as formats read them.
-use Rattle.std.proofs.Common.{◌≡◌, ◌≢◌, ℕ, zero, suc, ◌-◌, ◌<◌, ◌≤◌, ◌^◌, ◌⊎◌, max, Bool, true, false, cond, ◌==◌, List, [], ◌∷◌, length, Result, Ok, Err, refl, ap, sym, ◌∙◌, inl, inr, arith}
+use Rattle.std.proofs.Common.{◌≡◌, ℕ, zero, suc, ◌-◌, ◌<◌, ◌≤◌, ◌^◌, ◌⊎◌, max, Bool, true, false, cond, List, [], ◌∷◌, length, Result, Ok, Err, refl, ap, sym, ◌∙◌, inl, inr, arith}
 use Rattle.std.specs.Prelude.{IfOk, IfErr}
-use Rattle.std.proofs.lemmas.Bool.Decides.{nat_tests}
 use Rattle.dets_term.specs.TermValue.{TermValue, tuple, nil, chain, elements, is_list, parts_depth, depth}
 use Rattle.dets_term.specs.IsTerm.{built}
 use Rattle.dets_term.specs.Parts.{deepest, parts_depth-chain}
 use Rattle.etf_codec.specs.declared.fault.EtfFault.{EtfFault}
-use Rattle.etf_codec.specs.Format.{Place, Reading, byte, go_on, changed, either}
+use Rattle.etf_codec.specs.Format.{Place, Reading, byte, go_on}
 use Rattle.etf_codec.specs.ReadTerms.{body_of}
 use Rattle.etf_codec.specs.Spelling.{count, list_of, no_tail, term_with, part_at, tail_at}
 use Rattle.etf_codec.proofs.Bytes.{go_on_ok, go_on_err, test_passes, test_fails}

@@ -1,5 +1,5 @@
 -- Where a term stands, and the tags that may begin it there. This project's own.
-use Rattle.std.specs.Prelude.{◌≡◌, ◌≢◌, ℕ, ◌<◌, ◌-◌, ◌⊎◌, cond, ◌==◌, List, [], ◌∷◌, Result, Ok, Err}
+use Rattle.std.specs.Prelude.{◌≡◌, ◌≢◌, ℕ, ◌<◌, ◌-◌, cond, ◌==◌, List, [], ◌∷◌, Result, Ok, Err}
 use Rattle.dets_term.specs.TermValue.{TermValue}
 use Rattle.etf_codec.specs.declared.fault.EtfFault.{EtfFault}
 use Rattle.etf_codec.specs.declared.fault.EtfFault.TheVariants.{Unsupported, Compressed}
