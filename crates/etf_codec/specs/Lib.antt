@@ -4,7 +4,8 @@
 -- value, the bytes that end too early, and the bytes that break a rule with their last one. Beside them it has a
 -- reading, the middle between the relations and the code: a function from a place in the bytes to the value and the
 -- place behind it, or to the fault. `Exact` says that the two agree, and `Sharp` that the last
--- byte of a break is the first to break a rule.
+-- byte of a break is the first to break a rule. `Machine` says what is left to read of terms that are begun, by which
+-- the code reads part by part.
 pub mod Format
 pub mod Exact
 pub mod Sharp
