@@ -1,5 +1,5 @@
 -- Answers to bytes, by what reading them answers.
-use Rattle.std.proofs.Common.{◌≡◌, ℕ, List, [], ◌∷◌, ◌++◌, length, take, Ok, Err, refl, ap, ◌∙◌, sym, subst, length-append, arith}
+use Rattle.std.proofs.Common.{◌≡◌, ℕ, ◌+◌, List, [], ◌∷◌, ◌++◌, length, take, Ok, Err, refl, ap, ◌∙◌, sym, subst, length-append, arith}
 use Rattle.etf_codec.specs.declared.fault.EtfFault.{EtfFault}
 use Rattle.etf_codec.specs.declared.fault.EtfFault.TheVariants.{Short, Memory}
 use Rattle.etf_codec.specs.Format.{Place, Format}
@@ -11,10 +11,11 @@ take_front [] rest = refl
 take_front (x ∷ front) rest = ap (λ l. x ∷ l) (take_front front rest)
 
 module _ {A : Type 0} (F : Format A) (f : IsExact F) where
-  -- what is read from the front of some bytes
-  pub front_read : (before behind : Place) (x : A) (count : ℕ) → before.offset ≡ 0 → count ≡ behind.offset → F.read 0 before ≡ Ok (x, behind) → IsFront F before.left x count
-  front_read before behind x count start same e =
-      let between = f.read_whole 0 before x behind e in
+  -- what is read from the front of some bytes that begin at an offset
+  pub front_read : (start : ℕ) (before behind : Place) (x : A) (count : ℕ) → before.offset ≡ start → behind.offset ≡ start + count → F.read start before ≡ Ok (x, behind)
+      → IsFront F before.left x count
+  front_read start before behind x count begins same e =
+      let between = f.read_whole start before x behind e in
       let long : count ≡ length between.front = omega (arith, between.offset) in
       record {
         fits = omega (arith, ap length between.bytes, length-append between.front behind.left);
@@ -22,7 +23,7 @@ module _ {A : Type 0} (F : Format A) (f : IsExact F) where
       }
 
   -- a fault that is read
-  pub fault_read : (bytes : List ℕ) (fault : EtfFault) → F.read 0 (record { offset = 0; left = bytes }) ≡ Err fault → Answers F 0 bytes (Err fault)
-  fault_read bytes Short e = f.read_part 0 (record { offset = 0; left = bytes }) e
-  fault_read bytes Memory e = tt
-  fault_read bytes other e = f.read_break 0 (record { offset = 0; left = bytes }) other e (λ s. cc)
+  pub fault_read : (start : ℕ) (bytes : List ℕ) (fault : EtfFault) → F.read start (record { offset = start; left = bytes }) ≡ Err fault → Answers F start bytes (Err fault)
+  fault_read start bytes Short e = f.read_part start (record { offset = start; left = bytes }) e
+  fault_read start bytes Memory e = tt
+  fault_read start bytes other e = f.read_break start (record { offset = start; left = bytes }) other e (λ s. cc)

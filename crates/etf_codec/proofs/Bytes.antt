@@ -40,14 +40,15 @@ pow_256_le (suc (suc (suc zero))) h = omega arith
 pow_256_le (suc (suc (suc (suc n)))) h = absurd (omega arith)
 
 -- some of the bytes behind a place
-pub times_byte_at : (n at : ℕ) (term : ℕ) (bytes : List ℕ) (place : Place) → place_at bytes at ≡ place → n ≤ length (take (length bytes - at) (drop at bytes))
-    → (times n byte).read term place ≡ Ok (take n (take (length bytes - at) (drop at bytes)), place_at bytes (at + n))
-times_byte_at n at term bytes place e h =
-    rw (← e, take_rest, ← drop-drop n at bytes) (times_byte n term at (drop at bytes) (rw (← take_rest bytes at) h))
+pub times_byte_at : (start n at : ℕ) (term : ℕ) (bytes : List ℕ) (place : Place) → place_at start bytes at ≡ place → n ≤ length (take (length bytes - at) (drop at bytes))
+    → (times n byte).read term place ≡ Ok (take n (take (length bytes - at) (drop at bytes)), place_at start bytes (at + n))
+times_byte_at start n at term bytes place e h =
+    let behind : start + at + n ≡ start + (at + n) = omega arith in
+    rw (← e, take_rest, ← drop-drop n at bytes, ← behind) (times_byte n term (start + at) (drop at bytes) (rw (← take_rest bytes at) h))
 
-pub times_byte_at_end : (n at : ℕ) (term : ℕ) (bytes : List ℕ) (place : Place) → place_at bytes at ≡ place → length (take (length bytes - at) (drop at bytes)) < n
+pub times_byte_at_end : (start n at : ℕ) (term : ℕ) (bytes : List ℕ) (place : Place) → place_at start bytes at ≡ place → length (take (length bytes - at) (drop at bytes)) < n
     → (times n byte).read term place ≡ Err Short
-times_byte_at_end n at term bytes place e h = rw (← e) (times_byte_short n term at (drop at bytes) (rw (← take_rest bytes at) h))
+times_byte_at_end start n at term bytes place e h = rw (← e) (times_byte_short n term (start + at) (drop at bytes) (rw (← take_rest bytes at) h))
 
 -- one more byte of a number
 pub number_more : (value n : ℕ) (term : ℕ) (place : Place) (x : ℕ) (behind : Place) → 0 < n → byte.read term place ≡ Ok (x, behind)

@@ -1,7 +1,7 @@
 -- Properties of formats that hold of what is put together where they hold of its parts.
 use Rattle.std.proofs.Common.{◌≡◌, ◌≢◌, ℕ, zero, suc, ◌+◌, Bool, true, false, List, [], ◌∷◌, ◌++◌, refl, sym, ◌∙◌, arith}
 use Rattle.etf_codec.specs.declared.fault.EtfFault.{EtfFault}
-use Rattle.etf_codec.specs.declared.fault.EtfFault.TheVariants.{Short, Memory}
+use Rattle.etf_codec.specs.declared.fault.EtfFault.TheVariants.{Short, Memory, LongTerm}
 use Rattle.etf_codec.specs.Format.{Format, byte, give, followed, tested, framed, changed, either, times}
 use Rattle.etf_codec.specs.Moved.{moved}
 use Rattle.etf_codec.specs.Sharp.{HasBytes}
@@ -10,6 +10,7 @@ use Rattle.etf_codec.specs.Sharp.{HasBytes}
 pub record TellsOffset {A : Type 0} (fault : ℕ → A → EtfFault) : Type 0 where
   pub not_short : (term : ℕ) (x : A) → fault term x ≢ Short
   pub not_memory : (term : ℕ) (x : A) → fault term x ≢ Memory
+  pub not_long : (term : ℕ) (x : A) (at : ℕ) → fault term x ≢ LongTerm at
   pub moves : (n term : ℕ) (x : A) → moved n (fault term x) ≡ fault (term + n) x
 
 -- the second of two formats is looked at only where it is read, and what is tested is not empty

@@ -23,14 +23,17 @@ pub mod PairOrder
 pub mod SortedPairs
 pub mod TermSteps
 pub mod Decodings
-pub mod WantOfMemory
+pub mod StrayFaults
 pub mod SpellingKept
 pub mod SpellingExact
 pub mod SkippingKept
 pub mod SkippingExact
 pub mod GoOn
+pub mod Onward
 pub mod Resuming
 pub mod JoinSteps
+pub mod IntegerSteps
+pub mod ReaderSteps
 pub mod HeadSteps
 pub mod Nests
 pub mod TagSteps
@@ -43,3 +46,6 @@ pub mod ByReading
 pub mod Computing
 pub mod Within
 pub mod OneDecoding
+pub mod OneAnswer
+pub mod Histories
+pub mod FeedSteps

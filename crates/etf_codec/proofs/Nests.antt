@@ -1,12 +1,12 @@
 -- Begun terms, innermost last.
 use Rattle.std.proofs.Common.{◌≡◌, ℕ, ◌+◌, ◌-◌, ◌≤◌, List, [], ◌∷◌, ◌++◌, length, ap, sym, ◌∙◌, subst, arith}
-use Rattle.std.specs.Prelude.{reverse, Option, Result, Ok, Err, ◌⊎◌}
+use Rattle.std.specs.Prelude.{◌≢◌, reverse, Option, Result, Ok, Err, ◌⊎◌}
 use Rattle.std.specs.Result.{IsErrAnd}
 use mathlib.Core.Logic.{inl, inr}
 use Rattle.std.proofs.lemmas.List.{reverse-append, length-append, length-reverse}
 use Rattle.dets_term.specs.TermValue.{TermValue, depth}
 use Rattle.etf_codec.specs.declared.fault.EtfFault.{EtfFault}
-use Rattle.etf_codec.specs.declared.fault.EtfFault.TheVariants.{Memory}
+use Rattle.etf_codec.specs.declared.fault.EtfFault.TheVariants.{Short, Memory, RepeatedKey}
 use Rattle.etf_codec.specs.declared.joining.Joined.TheVariants.{Whole, Open}
 use Rattle.etf_codec.specs.Format.{Place}
 use Rattle.etf_codec.specs.Joins.{JoinsTo, JoinsWithin}
@@ -81,14 +81,18 @@ module _ (old bs : List Begun) (b : Begun) (e : old ≡ bs ++ b ∷ []) where
           λ place. ap (λ begun. resume begun start t place) turned ∙ joins (reverse bs) place ∙ ap (λ begun. reading_at begun place) (sym n),
         )
 
-    pub fault_step : (start : ℕ) (fault : EtfFault) → JoinsTo b start t (Err fault) → (fault ≡ Memory) ⊎ ((place : Place) → resume (reverse old) start t place ≡ Err fault)
+    pub fault_step : (start : ℕ) (fault : EtfFault) → JoinsTo b start t (Err fault)
+        → (fault ≡ Memory) ⊎ ((fault ≢ Short) × ((place : Place) → resume (reverse old) start t place ≡ Err fault))
     fault_step start fault (inl h) = inl h
-    fault_step start fault (inr h) = inr (λ place. ap (λ begun. resume begun start t place) turned ∙ h (reverse bs) place)
+    fault_step start fault (inr h) = inr (
+      λ e. let clash : RepeatedKey start ≡ Short = sym h.0 ∙ e in cc,
+      λ place. ap (λ begun. resume begun start t place) turned ∙ h.1 (reverse bs) place,
+    )
 
 -- what came first was the same
 pub completes_from : (old mid new : List Begun) (start at : ℕ) (t u : TermValue) (answer : Result (Option TermValue) EtfFault) (fault : EtfFault)
     → IsErrAnd answer (λ y. y ≡ fault) → ((place : Place) → resume (reverse old) start t place ≡ resume (reverse mid) at u place)
-    → (fault ≡ Memory) ⊎ ((place : Place) → resume (reverse mid) at u place ≡ Err fault) → Completes old new start t answer
+    → (fault ≡ Memory) ⊎ ((fault ≢ Short) × ((place : Place) → resume (reverse mid) at u place ≡ Err fault)) → Completes old new start t answer
 completes_from old mid new start at t u (Ok x) fault h same e = absurd h
 completes_from old mid new start at t u (Err y) fault h same (inl e) = inl (h ∙ e)
-completes_from old mid new start at t u (Err y) fault h same (inr e) = inr (λ place. same place ∙ e place ∙ ap Err (sym h))
+completes_from old mid new start at t u (Err y) fault h same (inr e) = inr (λ short. e.0 (sym h ∙ short), λ place. same place ∙ e.1 place ∙ ap Err (sym h))

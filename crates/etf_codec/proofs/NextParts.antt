@@ -1,6 +1,6 @@
 -- The next part of what is begun.
 use Rattle.std.proofs.Common.{◌≡◌, ℕ, suc, ◌-◌, ◌≤◌, cond, ◌==◌, List, [], ◌∷◌, length, Result, Ok, Err, refl, ap, sym, ◌∙◌, subst, arith}
-use Rattle.std.specs.Prelude.{reverse, ◌⊎◌, ◌≢◌, Option, Some, None}
+use Rattle.std.specs.Prelude.{reverse, ◌⊎◌, ◌≢◌}
 use Rattle.etf_codec.specs.declared.tags.Position.{Position}
 use Rattle.std.specs.Result.{IsErrAnd}
 use mathlib.Core.Logic.{inl, inr}
@@ -11,20 +11,25 @@ use Rattle.etf_codec.specs.declared.fault.EtfFault.TheVariants.{Memory, Unsuppor
 use Rattle.etf_codec.specs.declared.frame.Begun.{Begun}
 use Rattle.etf_codec.specs.declared.frame.Frame.{Frame}
 use Rattle.etf_codec.specs.declared.frame.Frame.TheVariants.{Element, Item, Tail, Key, Value}
-use Rattle.etf_codec.specs.declared.head.Head.TheVariants.{Whole, Begun as Opened}
+use Rattle.etf_codec.specs.declared.big_integer.BigInteger.{BigInteger}
+use Rattle.etf_codec.specs.declared.head.Head.{Head}
+use Rattle.etf_codec.specs.declared.head.Head.TheVariants.{Whole, Begun as Opened, Number}
+use Rattle.etf_codec.specs.BigIntegers.{integer_read}
+use Rattle.etf_codec.specs.GoesOn.{GoesOn}
 use Rattle.etf_codec.specs.Format.{Place, Reading, go_on}
 use Rattle.etf_codec.specs.Machine.{levels_below, map_behind, resume, wanted_by, wanted, reading_at}
 use Rattle.etf_codec.specs.Begun.{FrameFits, PartFits, MayBegin, AreBegun, MayCome}
 use Rattle.etf_codec.specs.Heads.{parts_read, HeadReads, HeadFits}
 use Rattle.etf_codec.specs.ReadTerms.{body_of}
 use Rattle.etf_codec.specs.Layout.{is_known}
-use Rattle.etf_codec.specs.Reads.{ReadsWithin}
 use Rattle.etf_codec.specs.Spelling.{part_at, tail_at, outermost}
 use Rattle.etf_codec.specs.Tags.{terms_at, next_in, next_position, TagReads, BeginsTail}
-use Rattle.etf_codec.specs.TermReader.{IsNest, Completes, NextReads}
+use Rattle.etf_codec.specs.TermReader.{IsNest, NextReads}
 use Rattle.dets_term.specs.Pairs.{placed}
 use Rattle.etf_codec.proofs.Bytes.{go_on_ok, go_on_err}
 use Rattle.etf_codec.proofs.GoOn.{go_on_twice, whichever_term}
+use Rattle.etf_codec.proofs.Onward.{goes_on_here, goes_on_then, goes_on_as, whatever_follows, no_longer}
+use Rattle.etf_codec.proofs.SpellingExact.{body_of-exact}
 use Rattle.etf_codec.proofs.Resuming.{part_anywhere, tail_anywhere, element_first, item_first, key_first}
 
 -- ---- what is wanted
@@ -42,20 +47,25 @@ wanted_terms (b ∷ bs) l place =
     let levels : levels_below (b ∷ bs) ≡ suc (255 - length (b ∷ bs)) = omega (arith, l) in
     by_frame b.frame (levels_below (b ∷ bs)) place.offset place ∙ ap (λ n. (terms_at (next_in b.frame) n).read place.offset place) levels
 
--- reading goes on behind the tag
-pub behind_tag_at : (bs : List Begun) (place next : Place) (tag : ℕ) → length bs ≤ 255 → TagReads (next_position bs) place next (Ok tag)
-    → reading_at bs place ≡ go_on ((body_of (255 - length bs) tag).read place.offset next) (λ t behind. resume bs place.offset t behind)
-behind_tag_at bs place next tag l reads =
-    ap (λ r. go_on r (λ t behind. resume bs place.offset t behind))
-    (wanted_terms bs l place ∙ reads (suc (255 - length bs)) (omega arith)
-    ∙ ap (λ n. (body_of n tag).read place.offset next) (let e : suc (255 - length bs) - 1 ≡ 255 - length bs = omega arith in e))
+-- reading goes on behind the tag of the term that begins at an offset
+abbrev tagged : List Begun → (tag start : ℕ) → Place → Reading TermValue
+tagged bs tag start place = go_on ((body_of (255 - length bs) tag).read start place) (λ t behind. resume bs start t behind)
 
-pub no_tag_at : (bs : List Begun) (place next : Place) (fault : EtfFault) → length bs ≤ 255 → TagReads (next_position bs) place next (Err fault) → reading_at bs place ≡ Err fault
+behind_tag_at : (bs : List Begun) (place next : Place) (tag : ℕ) → length bs ≤ 255 → TagReads (next_position bs) place next (Ok tag)
+    → GoesOn (reading_at bs) (tagged bs tag place.offset) place next
+behind_tag_at bs place next tag l reads =
+    let levels : suc (255 - length bs) - 1 ≡ 255 - length bs = omega arith in
+    goes_on_as ((terms_at (next_position bs) (suc (255 - length bs))).read place.offset) ((body_of (suc (255 - length bs) - 1) tag).read place.offset)
+    (reading_at bs) (tagged bs tag place.offset) place next (reads (suc (255 - length bs)) (omega arith))
+    (λ here later same. ap (λ r. go_on r (λ t behind. resume bs place.offset t behind))
+    (wanted_terms bs l (record { offset = place.offset; left = here }) ∙ same ∙ ap (λ n. (body_of n tag).read place.offset (record { offset = next.offset; left = later })) levels))
+
+no_tag_at : (bs : List Begun) (place next : Place) (fault : EtfFault) → length bs ≤ 255 → TagReads (next_position bs) place next (Err fault) → reading_at bs place ≡ Err fault
 no_tag_at bs place next fault l reads = go_on_err _ _ _ (wanted_terms bs l place ∙ reads (suc (255 - length bs)) (omega arith))
 
 -- ---- a term that is begun
 
-pub first_part : (frame : Frame) (start : ℕ) (bs : List Begun) (place : Place)
+first_part : (frame : Frame) (start : ℕ) (bs : List Begun) (place : Place)
     → go_on (parts_read frame (levels_below (record { start = start; frame = frame } ∷ bs)) start place) (λ whole behind. resume bs start whole behind)
     ≡ reading_at (record { start = start; frame = frame } ∷ bs) place
 first_part (Element n ts) start bs place = element_first n start ts bs place
@@ -70,7 +80,7 @@ first_part (Value n ps k) start bs place =
     go_on_twice ((part_at levels).read start place) (λ v b. (map_behind levels (placed (k, v) ps) n).read start b) (λ whole b. resume bs start whole b)
     ∙ ap (λ r. go_on r (λ v b. go_on ((map_behind levels (placed (k, v) ps) n).read start b) (λ whole b. resume bs start whole b))) (part_anywhere levels start place.offset place)
 
-pub opens : (bs : List Begun) (frame : Frame) (start : ℕ) (tag : ℕ) (next behind : Place) → length bs ≤ 254
+opens : (bs : List Begun) (frame : Frame) (start : ℕ) (tag : ℕ) (next behind : Place) → length bs ≤ 254
     → (body_of (255 - length bs) tag).read start next ≡ parts_read frame (255 - length bs) start behind
     → go_on ((body_of (255 - length bs) tag).read start next) (λ t b. resume bs start t b) ≡ reading_at (record { start = start; frame = frame } ∷ bs) behind
 opens bs frame start tag next behind l e =
@@ -86,7 +96,7 @@ no_list (Tail ts) levels t tag d b e = (d, e b.0 b.1)
 no_list (Key n ps) levels t tag d b e = d
 no_list (Value n ps k) levels t tag d b e = d
 
-pub whole_may_come : (bs : List Begun) (t : TermValue) (tag : ℕ) → length bs ≤ 255 → BeginsTail (next_position bs) (Ok tag) → HeadFits tag (255 - length bs) (Ok (Whole t)) → MayCome bs t
+whole_may_come : (bs : List Begun) (t : TermValue) (tag : ℕ) → length bs ≤ 255 → BeginsTail (next_position bs) (Ok tag) → HeadFits tag (255 - length bs) (Ok (Whole t)) → MayCome bs t
 whole_may_come [] t tag l b h = omega (arith, h.0)
 whole_may_come (c ∷ bs) t tag l b h = no_list c.frame (levels_below (c ∷ bs)) t tag (omega (arith, h.0, l)) b h.1
 
@@ -98,7 +108,7 @@ may_open (Tail ts) frame tag b h = h b.1 (Tail ts)
 may_open (Key n ps) frame tag b h = tt
 may_open (Value n ps k) frame tag b h = tt
 
-pub opened : (bs : List Begun) (frame : Frame) (start tag : ℕ) → length bs ≤ 255 → AreBegun bs → BeginsTail (next_position bs) (Ok tag) → HeadFits tag (255 - length bs) (Ok (Opened frame))
+opened : (bs : List Begun) (frame : Frame) (start tag : ℕ) → length bs ≤ 255 → AreBegun bs → BeginsTail (next_position bs) (Ok tag) → HeadFits tag (255 - length bs) (Ok (Opened frame))
     → (length bs ≤ 254) × AreBegun (record { start = start; frame = frame } ∷ bs)
 opened [] frame start tag l begun b h = (omega arith, h.1)
 opened (c ∷ bs) frame start tag l begun b h =
@@ -106,9 +116,23 @@ opened (c ∷ bs) frame start tag l begun b h =
     let levels : 255 - length (c ∷ bs) ≡ levels_below (record { start = start; frame = frame } ∷ c ∷ bs) = omega (arith, l) in
     (few, (subst (FrameFits frame) levels h.1, may_open c.frame frame tag b h.2, begun))
 
+-- ---- the first term
+
+whole_reading : {A : Type 0} (r : Reading A) → r ≡ go_on r (λ x behind. Ok (x, behind))
+whole_reading (Ok r) = refl
+whole_reading (Err fault) = refl
+
+-- where nothing is begun the outermost term comes next
+pub first_reading : (term : ℕ) (place : Place) → outermost.read term place ≡ reading_at [] place
+first_reading term place =
+    whichever_term is_known (λ term x. cond (x == 80) (Compressed term) (Unsupported term x)) 256 term place.offset place ∙ whole_reading (outermost.read place.offset place)
+
 -- ---- one part
 
-module _ (old : List Begun) (len start : ℕ) (before : Place) (l : len ≡ length old) (nest : IsNest old) (s : start ≡ before.offset) where
+module _ (old : List Begun) (len : ℕ) (before : Place) (l : len ≡ length old) (nest : IsNest old) where
+  abbrev start : ℕ
+  start = before.offset
+
   few : length (reverse old) ≤ 255
   few = omega (arith, length-reverse old, nest.0)
 
@@ -119,74 +143,69 @@ module _ (old : List Begun) (len start : ℕ) (before : Place) (l : len ≡ leng
   no_tag_here position mid fault p reads = no_tag_at (reverse old) before mid fault few (subst (λ q. TagReads q before mid (Err fault)) p reads)
 
   module _ (position : Position) (p : position ≡ next_position (reverse old)) (mid : Place) (tag : ℕ) (reads : TagReads position before mid (Ok tag)) where
-    here : reading_at (reverse old) before ≡ go_on ((body_of (255 - length (reverse old)) tag).read start mid) (λ t behind. resume (reverse old) start t behind)
-    here =
-        behind_tag_at (reverse old) before mid tag few (subst (λ q. TagReads q before mid (Ok tag)) p reads)
-        ∙ ap (λ o. go_on ((body_of (255 - length (reverse old)) tag).read o mid) (λ t behind. resume (reverse old) o t behind)) (sym s)
+    here : GoesOn (reading_at (reverse old)) (tagged (reverse old) tag start) before mid
+    here = behind_tag_at (reverse old) before mid tag few (subst (λ q. TagReads q before mid (Ok tag)) p reads)
 
-    pub whole_here : (behind : Place) (t : TermValue) → HeadReads (body_of (255 - len) tag) (255 - len) start mid behind (Ok (Whole t))
-        → reading_at (reverse old) before ≡ resume (reverse old) start t behind
-    whole_here behind t h = here ∙ go_on_ok _ _ _ _ (subst (λ n. (body_of n tag).read start mid ≡ Ok (t, behind)) levels_are h)
+    whole_here : (behind : Place) (t : TermValue) → HeadReads (body_of (255 - len) tag) (255 - len) start mid behind (Ok (Whole t))
+        → GoesOn (reading_at (reverse old)) (resume (reverse old) start t) before behind
+    whole_here behind t h =
+        goes_on_then (reading_at (reverse old)) (tagged (reverse old) tag start) (resume (reverse old) start t) before mid behind here
+        (goes_on_as ((body_of (255 - length (reverse old)) tag).read start) (λ place. Ok (t, place)) (tagged (reverse old) tag start) (resume (reverse old) start t) mid behind
+        (whatever_follows (body_of (255 - length (reverse old)) tag) (body_of-exact (255 - length (reverse old)) tag) start mid behind t
+        (subst (λ n. (body_of n tag).read start mid ≡ Ok (t, behind)) levels_are h))
+        (λ here later same. go_on_ok _ _ _ _ same))
 
-    pub open_here : (behind : Place) (frame : Frame) → length (reverse old) ≤ 254 → HeadReads (body_of (255 - len) tag) (255 - len) start mid behind (Ok (Opened frame))
-        → reading_at (reverse old) before ≡ reading_at (record { start = start; frame = frame } ∷ reverse old) behind
+    open_here : (behind : Place) (frame : Frame) → length (reverse old) ≤ 254 → HeadReads (body_of (255 - len) tag) (255 - len) start mid behind (Ok (Opened frame))
+        → GoesOn (reading_at (reverse old)) (reading_at (record { start = start; frame = frame } ∷ reverse old)) before behind
     open_here behind frame room h =
-        here ∙ opens (reverse old) frame start tag mid behind room (subst (λ n. (body_of n tag).read start mid ≡ parts_read frame n start behind) levels_are h)
+        goes_on_then (reading_at (reverse old)) (tagged (reverse old) tag start) (reading_at (record { start = start; frame = frame } ∷ reverse old)) before mid behind here
+        (goes_on_as ((body_of (255 - length (reverse old)) tag).read start) (parts_read frame (255 - length (reverse old)) start)
+        (tagged (reverse old) tag start) (reading_at (record { start = start; frame = frame } ∷ reverse old)) mid behind
+        (subst (λ n. GoesOn ((body_of n tag).read start) (parts_read frame n start) mid behind) levels_are h)
+        (λ here later same. opens (reverse old) frame start tag (record { offset = mid.offset; left = here }) (record { offset = behind.offset; left = later }) room same))
 
-    pub fault_here : (behind : Place) (fault : EtfFault) → HeadReads (body_of (255 - len) tag) (255 - len) start mid behind (Err fault) → (fault ≡ Memory) ⊎ (reading_at (reverse old) before ≡ Err fault)
+    number_here : (behind : Place) (b : BigInteger) → HeadReads (body_of (255 - len) tag) (255 - len) start mid behind (Ok (Number b))
+        → GoesOn (reading_at (reverse old)) (λ place. go_on (integer_read b place) (λ t later. resume (reverse old) b.start t later)) before behind
+    number_here behind b h =
+        goes_on_then (reading_at (reverse old)) (tagged (reverse old) tag start) (λ place. go_on (integer_read b place) (λ t later. resume (reverse old) b.start t later)) before mid behind here
+        (goes_on_as ((body_of (255 - length (reverse old)) tag).read start) (integer_read b)
+        (tagged (reverse old) tag start) (λ place. go_on (integer_read b place) (λ t later. resume (reverse old) b.start t later)) mid behind
+        (subst (λ n. GoesOn ((body_of n tag).read start) (integer_read b) mid behind) levels_are h.1)
+        (λ here later same.
+        ap (λ r. go_on r (λ t behind. resume (reverse old) start t behind)) same
+        ∙ ap (λ o. go_on (integer_read b (record { offset = behind.offset; left = later })) (λ t place. resume (reverse old) o t place)) (sym h.0)))
+
+    fault_here : (behind : Place) (fault : EtfFault) → HeadReads (body_of (255 - len) tag) (255 - len) start mid behind (Err fault) → (fault ≡ Memory) ⊎ (reading_at (reverse old) before ≡ Err fault)
     fault_here behind fault (inl h) = inl h
-    fault_here behind fault (inr h) = inr (here ∙ go_on_err _ _ _ (subst (λ n. (body_of n tag).read start mid ≡ Err fault) levels_are h))
+    fault_here behind fault (inr h) =
+        inr (goes_on_here (reading_at (reverse old)) (tagged (reverse old) tag start) before mid here
+        ∙ go_on_err _ _ _ (subst (λ n. (body_of n tag).read start mid ≡ Err fault) levels_are h))
 
-    pub comes_here : (t : TermValue) → BeginsTail position (Ok tag) → HeadFits tag (255 - len) (Ok (Whole t)) → MayCome (reverse old) t
+    -- nothing is left that was not
+    pub shorter_here : (behind : Place) (head : Head) → HeadReads (body_of (255 - len) tag) (255 - len) start mid behind (Ok head) → length behind.left ≤ length mid.left
+    shorter_here behind (Whole t) h = no_longer mid behind ((body_of-exact (255 - len) tag).read_whole start mid t behind h)
+    shorter_here behind (Opened frame) h = no_longer mid behind h
+    shorter_here behind (Number b) h = no_longer mid behind h.1
+
+    comes_here : (t : TermValue) → BeginsTail position (Ok tag) → HeadFits tag (255 - len) (Ok (Whole t)) → MayCome (reverse old) t
     comes_here t b h = whole_may_come (reverse old) t tag few (subst (λ q. BeginsTail q (Ok tag)) p b) (subst (λ n. HeadFits tag n (Ok (Whole t))) levels_are h)
 
-    pub opened_here : (frame : Frame) → BeginsTail position (Ok tag) → HeadFits tag (255 - len) (Ok (Opened frame)) → (length (reverse old) ≤ 254) × AreBegun (record { start = start; frame = frame } ∷ reverse old)
+    opened_here : (frame : Frame) → BeginsTail position (Ok tag) → HeadFits tag (255 - len) (Ok (Opened frame)) → (length (reverse old) ≤ 254) × AreBegun (record { start = start; frame = frame } ∷ reverse old)
     opened_here frame b h = opened (reverse old) frame start tag few nest.1 (subst (λ q. BeginsTail q (Ok tag)) p b) (subst (λ n. HeadFits tag n (Ok (Opened frame))) levels_are h)
 
-pub next_whole : (old new : List Begun) (before behind : Place) (start : ℕ) (t : TermValue) (answer : Result (Option TermValue) EtfFault)
-    → reading_at (reverse old) before ≡ resume (reverse old) start t behind → Completes old new start t answer → NextReads old new before behind answer
-next_whole old new before behind start t (Ok (Some whole)) e c = e ∙ c.1 behind
-next_whole old new before behind start t (Ok None) e c = (c.0, e ∙ c.1 behind)
-next_whole old new before behind start t (Err fault) e (inl h) = inl h
-next_whole old new before behind start t (Err fault) e (inr h) = inr (e ∙ h behind)
+    pub head_here : (behind : Place) (head : Head) → BeginsTail position (Ok tag) → HeadReads (body_of (255 - len) tag) (255 - len) start mid behind (Ok head) → HeadFits tag (255 - len) (Ok head)
+        → NextReads old before behind (Ok head)
+    head_here behind (Whole t) b h fits = (comes_here t b fits, whole_here behind t h)
+    head_here behind (Opened frame) b h fits =
+        let opened = opened_here frame b fits in
+        (omega (arith, opened.0, length-reverse old), opened.1, open_here behind frame opened.0 h)
+    head_here behind (Number b) t h fits = (fits, number_here behind b h)
 
-pub next_open : (old new : List Begun) (before behind : Place) (b : Begun) → IsNest old → reverse new ≡ b ∷ reverse old → length (reverse old) ≤ 254 → AreBegun (b ∷ reverse old)
-    → reading_at (reverse old) before ≡ reading_at (b ∷ reverse old) behind → NextReads old new before behind (Ok None)
-next_open old new before behind b nest n room begun e =
-    ((omega (arith, ap length n, length-reverse new, room), subst AreBegun (sym n) begun), e ∙ ap (λ bs. reading_at bs behind) (sym n))
+    pub no_head_here : (behind : Place) (fault : EtfFault) → HeadReads (body_of (255 - len) tag) (255 - len) start mid behind (Err fault) → NextReads old before before (Err fault)
+    no_head_here behind fault h = (refl, fault_here behind fault h)
 
-pub next_fault : (old new : List Begun) (before behind : Place) (answer : Result (Option TermValue) EtfFault) (fault : EtfFault) → IsErrAnd answer (λ y. y ≡ fault)
-    → (fault ≡ Memory) ⊎ (reading_at (reverse old) before ≡ Err fault) → NextReads old new before behind answer
-next_fault old new before behind (Ok x) fault h e = absurd h
-next_fault old new before behind (Err y) fault h (inl e) = inl (h ∙ e)
-next_fault old new before behind (Err y) fault h (inr e) = inr (e ∙ ap Err (sym h))
-
--- ---- the first term
-
-whole_reading : {A : Type 0} (r : Reading A) → r ≡ go_on r (λ x behind. Ok (x, behind))
-whole_reading (Ok r) = refl
-whole_reading (Err fault) = refl
-
-pub first_reading : (place : Place) → outermost.read place.offset place ≡ reading_at [] place
-first_reading place = whole_reading (outermost.read place.offset place)
-
-first_anywhere : (s t : ℕ) (place : Place) → outermost.read s place ≡ outermost.read t place
-first_anywhere s t place = whichever_term is_known (λ term x. cond (x == 80) (Compressed term) (Unsupported term x)) 256 s t place
-
--- a term that was read from the first place on, or a fault
-pub read_whole : (begun new : List Begun) (before now behind : Place) (term : ℕ) (t : TermValue) → outermost.read before.offset before ≡ reading_at (reverse begun) now → NextReads begun new now behind (Ok (Some t))
-    → outermost.read term before ≡ Ok (t, behind)
-read_whole begun new before now behind term t e h = first_anywhere term before.offset before ∙ e ∙ h
-
-pub read_on : (begun new : List Begun) (before now behind : Place) → outermost.read before.offset before ≡ reading_at (reverse begun) now → NextReads begun new now behind (Ok None)
-    → IsNest new × (outermost.read before.offset before ≡ reading_at (reverse new) behind)
-read_on begun new before now behind e h = (h.0, e ∙ h.1)
-
-pub read_fault : (begun new : List Begun) (before now behind last : Place) (term : ℕ) (answer : Result TermValue EtfFault) (fault : EtfFault) → IsErrAnd answer (λ y. y ≡ fault)
-    → outermost.read before.offset before ≡ reading_at (reverse begun) now → NextReads begun new now behind (Err fault) → ReadsWithin outermost term before last answer
-read_fault begun new before now behind last term (Ok x) fault h e n = absurd h
-read_fault begun new before now behind last term (Err y) fault h e (inl n) = inl (h ∙ n)
-read_fault begun new before now behind last term (Err y) fault h e (inr n) = inr (first_anywhere term before.offset before ∙ e ∙ n ∙ ap Err (sym h))
-
-pub nothing_begun : (begun : List Begun) (place : Place) → begun ≡ [] → IsNest begun × (outermost.read place.offset place ≡ reading_at (reverse begun) place)
-nothing_begun begun place e = subst (λ (bs : List Begun). IsNest bs × (outermost.read place.offset place ≡ reading_at (reverse bs) place)) (sym e) ((omega arith, tt), first_reading place)
+-- a fault that was handed on
+pub next_fault : (begun : List Begun) (before : Place) (answer : Result Head EtfFault) (fault : EtfFault) → IsErrAnd answer (λ y. y ≡ fault) → NextReads begun before before (Err fault)
+    → NextReads begun before before answer
+next_fault begun before (Ok head) fault h e = absurd h
+next_fault begun before (Err y) fault h e = subst (λ f. NextReads begun before before (Err f)) (sym h) e

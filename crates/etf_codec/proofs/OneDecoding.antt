@@ -30,8 +30,8 @@ broken_front bytes fault b = ap (λ bs. told (from_front bs)) b.whole ∙ ap tol
 -- each decoding but want of memory is what reading tells
 settled : (bytes : List ℕ) (r : Result (TermValue × ℕ) EtfFault) → IsDecoding bytes r → r ≢ Err Memory → told (from_front bytes) ≡ r
 settled bytes (Ok r) d other =
-    ap (λ bs. told (from_front bs)) (sym (take-append-drop r.1 bytes)) ∙ spelled_front r.0 (take r.1 bytes) (drop r.1 bytes) d.1
-    ∙ ap (λ n. Ok (r.0, n)) (length-take-le r.1 bytes d.0)
+    ap (λ bs. told (from_front bs)) (sym (take-append-drop r.1 bytes)) ∙ spelled_front r.0 (take r.1 bytes) (drop r.1 bytes) d.whole
+    ∙ ap (λ n. Ok (r.0, n)) (length-take-le r.1 bytes d.fits)
 settled bytes (Err Short) d other = ap told (spelling-exact.part_read 0 0 bytes d)
 settled bytes (Err Memory) d other = absurd (other refl)
 settled bytes (Err (NotVersion at)) d other = broken_front bytes (NotVersion at) d

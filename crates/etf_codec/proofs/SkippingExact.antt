@@ -8,7 +8,7 @@ use Rattle.etf_codec.specs.Sharp.{IsSharp}
 use Rattle.etf_codec.specs.Skipping.{skipped}
 use Rattle.etf_codec.proofs.Exactness.{exact-kept}
 use Rattle.etf_codec.proofs.Sharpness.{sharp-kept}
-use Rattle.etf_codec.proofs.WantOfMemory.{NeedsNone, none-kept, no_want}
+use Rattle.etf_codec.proofs.StrayFaults.{Lacks, lacks-kept, memory_is_stray, never_read}
 use Rattle.etf_codec.proofs.SkippingKept.{skipped-kept}
 
 pub skipped-exact : IsExact skipped
@@ -18,4 +18,4 @@ pub skipped-sharp : IsSharp skipped
 skipped-sharp = skipped-kept (λ A F. IsSharp F) sharp-kept
 
 pub skipped_needs_no_memory : (term : ℕ) (place : Place) → skipped.read term place ≡ Err Memory → ⊥
-skipped_needs_no_memory = no_want skipped skipped-exact (skipped-kept (λ A F. NeedsNone F) none-kept)
+skipped_needs_no_memory = never_read Memory skipped (λ same. cc) skipped-exact (skipped-kept (λ A F. Lacks Memory F) (lacks-kept Memory memory_is_stray))

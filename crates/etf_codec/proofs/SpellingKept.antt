@@ -7,36 +7,37 @@ use Rattle.dets_term.specs.Order.{is_same}
 use Rattle.dets_term.specs.Pairs.{keys, placed}
 use Rattle.dets_term.specs.BitString.{bits_of}
 use Rattle.etf_codec.specs.declared.fault.EtfFault.{EtfFault}
-use Rattle.etf_codec.specs.declared.fault.EtfFault.TheVariants.{Short, Memory, NotVersion, Unsupported, Compressed, IntegerRange, BadAtom, BadBits, RepeatedKey, Depth}
+use Rattle.etf_codec.specs.declared.fault.EtfFault.TheVariants.{Short, Memory, NotVersion, Unsupported, Compressed, IntegerRange, BadAtom, BadBits, RepeatedKey, Depth, LongTerm}
 use Rattle.etf_codec.specs.Format.{Format, byte, followed, tested, framed, changed, either, times}
 use Rattle.etf_codec.specs.Sharp.{HasBytes}
 use Rattle.etf_codec.specs.Moved.{moved}
 use Rattle.etf_codec.specs.Layout.{is_known, begins_tail, signed_32, signed, limit, characters, is_name, may_use, integers}
-use Rattle.etf_codec.specs.Spelling.{number_after, number, sized, may_have_parts, count_after, count, magnitude_after, big_integer, name, binary, bit_binary, string, tuple_of, no_tail, list_of, pairs_after, map_format, body, tag_of, term_with, outermost, spelling}
+use Rattle.etf_codec.specs.Spelling.{number_after, number, sized, may_have_parts, count_after, count, magnitude_after, big_integer, name, binary, bit_binary, string, tuple_of, no_tail, list_of, pairs_after, map_format, body, tag_of, term_with, part_at, tail_at, outermost, spelling}
+use Rattle.etf_codec.specs.ReadTerms.{body_of}
 use Rattle.etf_codec.proofs.Kept.{TellsOffset, IsKept, changed-kept, either-kept, times-kept, byte_some, followed_some, tested_some}
 
 -- ---- the faults tell offsets
 
 pub tag_tells : TellsOffset (λ term x. Unsupported term x)
-tag_tells = record { not_short = λ term x e. cc; not_memory = λ term x e. cc; moves = λ n term x. refl }
+tag_tells = record { not_short = λ term x e. cc; not_memory = λ term x e. cc; not_long = λ term x at e. cc; moves = λ n term x. refl }
 
 pub depth_tells : TellsOffset (λ (term x : ℕ). Depth term)
-depth_tells = record { not_short = λ term x e. cc; not_memory = λ term x e. cc; moves = λ n term x. refl }
+depth_tells = record { not_short = λ term x e. cc; not_memory = λ term x e. cc; not_long = λ term x at e. cc; moves = λ n term x. refl }
 
 range_tells : TellsOffset (λ (term x : ℕ). IntegerRange term)
-range_tells = record { not_short = λ term x e. cc; not_memory = λ term x e. cc; moves = λ n term x. refl }
+range_tells = record { not_short = λ term x e. cc; not_memory = λ term x e. cc; not_long = λ term x at e. cc; moves = λ n term x. refl }
 
 bits_tells : TellsOffset (λ (term x : ℕ). BadBits term)
-bits_tells = record { not_short = λ term x e. cc; not_memory = λ term x e. cc; moves = λ n term x. refl }
+bits_tells = record { not_short = λ term x e. cc; not_memory = λ term x e. cc; not_long = λ term x at e. cc; moves = λ n term x. refl }
 
 version_tells : TellsOffset (λ (term x : ℕ). NotVersion term)
-version_tells = record { not_short = λ term x e. cc; not_memory = λ term x e. cc; moves = λ n term x. refl }
+version_tells = record { not_short = λ term x e. cc; not_memory = λ term x e. cc; not_long = λ term x at e. cc; moves = λ n term x. refl }
 
 atom_tells : TellsOffset (λ (term : ℕ) (bytes : List ℕ). BadAtom term)
-atom_tells = record { not_short = λ term x e. cc; not_memory = λ term x e. cc; moves = λ n term x. refl }
+atom_tells = record { not_short = λ term x e. cc; not_memory = λ term x e. cc; not_long = λ term x at e. cc; moves = λ n term x. refl }
 
 key_tells : TellsOffset (λ (term : ℕ) (k : TermValue). RepeatedKey term)
-key_tells = record { not_short = λ term x e. cc; not_memory = λ term x e. cc; moves = λ n term x. refl }
+key_tells = record { not_short = λ term x e. cc; not_memory = λ term x e. cc; not_long = λ term x at e. cc; moves = λ n term x. refl }
 
 -- 80 begins a compressed term
 abbrev first_fault : ℕ → ℕ → Bool → EtfFault
@@ -50,6 +51,10 @@ first_memory : (term x : ℕ) (b : Bool) → first_fault term x b ≢ Memory
 first_memory term x true e = cc
 first_memory term x false e = cc
 
+first_long : (term x at : ℕ) (b : Bool) → first_fault term x b ≢ LongTerm at
+first_long term x at true e = cc
+first_long term x at false e = cc
+
 first_moves : (n term x : ℕ) (b : Bool) → moved n (first_fault term x b) ≡ first_fault (term + n) x b
 first_moves n term x true = refl
 first_moves n term x false = refl
@@ -58,6 +63,7 @@ first_tells : TellsOffset (λ term x. cond (x == 80) (Compressed term) (Unsuppor
 first_tells = record {
   not_short = λ term x. first_short term x (x == 80);
   not_memory = λ term x. first_memory term x (x == 80);
+  not_long = λ term x at. first_long term x at (x == 80);
   moves = λ n term x. first_moves n term x (x == 80);
 }
 
@@ -113,7 +119,7 @@ module _ (P : (A : Type 0) → Format A → Type 0) (kept : IsKept P) where
       (tested_byte-kept (λ x. cond may true (x == 0)) (λ term x. Depth term) depth_tells)
       (λ x front w. count_after-kept may (256 * n + x) size)
 
-  count-kept : (levels size : ℕ) → P ℕ (count levels size)
+  pub count-kept : (levels size : ℕ) → P ℕ (count levels size)
   count-kept levels size = count_after-kept (may_have_parts levels) 0 size
 
   magnitude_after-kept : (most weight m size : ℕ) → P ℕ (magnitude_after most weight m size)
@@ -125,11 +131,14 @@ module _ (P : (A : Type 0) → Format A → Type 0) (kept : IsKept P) where
 
   -- ---- terms without parts
 
+  pub magnitude-kept : (most weight m size : ℕ) (f : ℕ → TermValue) → P TermValue (changed (magnitude_after most weight m size) f)
+  magnitude-kept most weight m size f = changed-kept P kept (magnitude_after most weight m size) f (magnitude_after-kept most weight m size)
+
   big_integer-kept : (size : ℕ) → P TermValue (big_integer size)
   big_integer-kept size =
       kept.of_followed (number size) _ (number-kept size)
       (λ n front w. kept.of_followed byte _ kept.of_byte
-      (λ sign front w. changed-kept P kept (magnitude_after (limit sign) 1 0 n) (λ m. integer (signed sign m)) (magnitude_after-kept (limit sign) 1 0 n)))
+      (λ sign front w. magnitude-kept (limit sign) 1 0 n (λ m. integer (signed sign m))))
 
   name-kept : (utf8 : Bool) (size : ℕ) → P TermValue (name utf8 (suc size))
   name-kept utf8 size =
@@ -221,6 +230,13 @@ module _ (P : (A : Type 0) → Format A → Type 0) (kept : IsKept P) where
       (term_some is_known (λ term x. Unsupported term x) levels) levels
       (term_with-kept is_known (λ term x. Unsupported term x) tag_tells levels)
       (term_with-kept begins_tail (λ term x. Unsupported term x) tag_tells levels) tag))
+
+  pub body_of-kept : (levels tag : ℕ) → P TermValue (body_of levels tag)
+  unfolding body_of
+  body_of-kept levels tag =
+      body-kept (part_at levels) (tail_at levels) (term_some is_known (λ term x. Unsupported term x) levels) levels
+      (term_with-kept is_known (λ term x. Unsupported term x) tag_tells levels)
+      (term_with-kept begins_tail (λ term x. Unsupported term x) tag_tells levels) tag
 
   outermost-kept : P TermValue outermost
   outermost-kept = term_with-kept is_known (λ term x. cond (x == 80) (Compressed term) (Unsupported term x)) first_tells 256 refl

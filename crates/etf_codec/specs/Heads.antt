@@ -1,4 +1,4 @@
--- What stands behind a tag: a whole term, or one that is begun. This project's own.
+-- What stands behind a tag: a whole term, one that is begun, or a big integer. This project's own.
 use Rattle.std.specs.Prelude.{◌≡◌, ◌≢◌, ℕ, suc, ◌≤◌, [], ◌⊎◌, ◌++◌, Result, Ok, Err}
 use Rattle.dets_term.specs.TermValue.{TermValue, tuple, nil, chain, elements, depth}
 use Rattle.dets_term.specs.Pairs.{placed}
@@ -7,9 +7,11 @@ use Rattle.etf_codec.specs.declared.fault.EtfFault.TheVariants.{Memory}
 use Rattle.etf_codec.specs.declared.frame.Frame.{Frame}
 use Rattle.etf_codec.specs.declared.frame.Frame.TheVariants.{Element, Item, Tail, Key, Value}
 use Rattle.etf_codec.specs.declared.head.Head.{Head}
-use Rattle.etf_codec.specs.declared.head.Head.TheVariants.{Whole, Begun}
+use Rattle.etf_codec.specs.declared.head.Head.TheVariants.{Whole, Begun, Number}
+use Rattle.etf_codec.specs.BigIntegers.{IsBig, integer_read}
 use Rattle.etf_codec.specs.Format.{Format, Place, Reading, followed, changed, times}
 use Rattle.etf_codec.specs.Spelling.{part_at, tail_at}
+use Rattle.etf_codec.specs.GoesOn.{GoesOn}
 use Rattle.etf_codec.specs.Machine.{map_behind}
 use Rattle.etf_codec.specs.Begun.{FrameFits, MayBegin}
 
@@ -25,7 +27,8 @@ parts_read (Value n pairs k) levels start place = (followed (part_at levels) (λ
 -- what is answered behind the tag of the term that begins at an offset, below which so many levels are left
 abbrev pub HeadReads : Format TermValue → (levels start : ℕ) → Place → Place → Result Head EtfFault → Type 0
 HeadReads F levels start before behind (Ok (Whole t)) = F.read start before ≡ Ok (t, behind)
-HeadReads F levels start before behind (Ok (Begun frame)) = F.read start before ≡ parts_read frame levels start behind
+HeadReads F levels start before behind (Ok (Begun frame)) = GoesOn (F.read start) (parts_read frame levels start) before behind
+HeadReads F levels start before behind (Ok (Number b)) = (b.start ≡ start) × GoesOn (F.read start) (integer_read b) before behind
 HeadReads F levels start before behind (Err fault) = (fault ≡ Memory) ⊎ (F.read start before ≡ Err fault)
 
 -- A term with no more levels than are left, which is a list with elements only behind the tags 107 and 108, or a begun
@@ -33,4 +36,5 @@ HeadReads F levels start before behind (Err fault) = (fault ≡ Memory) ⊎ (F.r
 abbrev pub HeadFits : (tag levels : ℕ) → Result Head EtfFault → Type 0
 HeadFits tag levels (Ok (Whole t)) = (depth t ≤ suc levels) × (tag ≢ 107 → tag ≢ 108 → elements t ≡ [])
 HeadFits tag levels (Ok (Begun frame)) = (1 ≤ levels) × FrameFits frame levels × (tag ≢ 108 → (outer : Frame) → MayBegin outer frame)
+HeadFits tag levels (Ok (Number b)) = IsBig b
 HeadFits tag levels (Err fault) = Unit {0}

@@ -2,7 +2,7 @@
 use Rattle.std.specs.Prelude.{◌≡◌, ℕ, ◌+◌, ◌≤◌, ◌⊎◌, List, ◌∷◌, Result, Ok, Err}
 use Rattle.dets_term.specs.TermValue.{TermValue, depth}
 use Rattle.etf_codec.specs.declared.fault.EtfFault.{EtfFault}
-use Rattle.etf_codec.specs.declared.fault.EtfFault.TheVariants.{Memory}
+use Rattle.etf_codec.specs.declared.fault.EtfFault.TheVariants.{Memory, RepeatedKey}
 use Rattle.etf_codec.specs.declared.frame.Begun.{Begun}
 use Rattle.etf_codec.specs.declared.frame.Frame.{Frame}
 use Rattle.etf_codec.specs.declared.joining.Joined.{Joined}
@@ -16,7 +16,7 @@ use Rattle.etf_codec.specs.Begun.{FrameFits, PartFits, MayBegin}
 abbrev pub JoinsTo : Begun → ℕ → TermValue → Result Joined EtfFault → Type 0
 JoinsTo b at t (Ok (Whole start whole)) = (begun : List Begun) (place : Place) → resume (b ∷ begun) at t place ≡ resume begun start whole place
 JoinsTo b at t (Ok (Open c)) = (begun : List Begun) (place : Place) → resume (b ∷ begun) at t place ≡ reading_at (c ∷ begun) place
-JoinsTo b at t (Err fault) = (fault ≡ Memory) ⊎ ((begun : List Begun) (place : Place) → resume (b ∷ begun) at t place ≡ Err fault)
+JoinsTo b at t (Err fault) = (fault ≡ Memory) ⊎ ((fault ≡ RepeatedKey at) × ((begun : List Begun) (place : Place) → resume (b ∷ begun) at t place ≡ Err fault))
 
 -- what stays within the limits of terms, where the parts have at most so many levels
 abbrev pub JoinsWithin : Begun → ℕ → Result Joined EtfFault → Type 0

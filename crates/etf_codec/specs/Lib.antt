@@ -18,10 +18,16 @@ pub mod Fronts
 pub mod Moved
 pub mod Decoding
 pub mod Skipping
+pub mod GoesOn
 pub mod Machine
+pub mod BigIntegers
 pub mod Begun
 pub mod Joins
 pub mod Heads
 pub mod TermReader
 pub mod Tags
 pub mod Answers
+pub mod FeedState
+pub mod Next
+pub mod History
+pub mod FeedInside

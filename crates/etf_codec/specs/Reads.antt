@@ -1,12 +1,12 @@
 -- What a reader answers, told by its format. This project's own.
-use Rattle.std.specs.Prelude.{◌≡◌, ℕ, Bool, cond, List, Result, Ok, Err, ◌⊎◌, drop}
+use Rattle.std.specs.Prelude.{◌≡◌, ℕ, ◌+◌, Bool, cond, List, Result, Ok, Err, ◌⊎◌, drop}
 use Rattle.etf_codec.specs.declared.fault.EtfFault.{EtfFault}
 use Rattle.etf_codec.specs.declared.fault.EtfFault.TheVariants.{Memory}
 use Rattle.etf_codec.specs.Format.{Format, Place, Reading}
 
--- the place in some bytes behind so many of them
-abbrev pub place_at : List ℕ → ℕ → Place
-place_at bytes at = record { offset = at; left = drop at bytes }
+-- the place behind so many of some bytes that begin at an offset
+abbrev pub place_at : ℕ → List ℕ → ℕ → Place
+place_at start bytes at = record { offset = start + at; left = drop at bytes }
 
 -- an answer beside that of reading: the value and the place behind it, or the fault
 abbrev pub ReadsAs : {A : Type 0} → Reading A → Place → Result A EtfFault → Type 0

@@ -9,6 +9,7 @@ use Rattle.etf_codec.specs.declared.frame.Frame.TheVariants.{Tail as TailFrame}
 use Rattle.etf_codec.specs.declared.tags.Position.{Position}
 use Rattle.etf_codec.specs.declared.tags.Position.TheVariants.{First, Part, Tail}
 use Rattle.etf_codec.specs.Format.{Format, Place}
+use Rattle.etf_codec.specs.GoesOn.{GoesOn}
 use Rattle.etf_codec.specs.Layout.{is_known}
 use Rattle.etf_codec.specs.ReadTerms.{body_of}
 use Rattle.etf_codec.specs.Spelling.{term_with, part_at, tail_at}
@@ -31,7 +32,7 @@ next_position (b ∷ begun) = next_in b.frame
 -- What is answered for the tag at a place: it may stand there, and reading goes on behind it, or the fault. Levels are left.
 abbrev pub TagReads : Position → Place → Place → Result ℕ EtfFault → Type 0
 TagReads position before behind (Ok tag) =
-    (levels : ℕ) → 0 < levels → (terms_at position levels).read before.offset before ≡ (body_of (levels - 1) tag).read before.offset behind
+    (levels : ℕ) → 0 < levels → GoesOn ((terms_at position levels).read before.offset) ((body_of (levels - 1) tag).read before.offset) before behind
 TagReads position before behind (Err fault) = (levels : ℕ) → 0 < levels → (terms_at position levels).read before.offset before ≡ Err fault
 
 -- a tail is no list with elements

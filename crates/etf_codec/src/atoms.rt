@@ -55,7 +55,8 @@ fn latin_1_atom(alloc: Global, bytes: &[u8], term: u64) -> Result<Term, EtfFault
 /// The atom of a text, `BadAtom` above 255 characters.
 fn named(alloc: Global, text: &str, term: u64) -> Result<Term, EtfFault>
     ensures ok { IfOk result (λ t. (length (chars text.now) ≤ 255) × (t ≡ atom (chars text.now))) }
-    ensures err { IfErr result (λ fault. (fault ≡ EtfFault.Memory) ⊎ ((255 < length (chars text.now)) × (fault ≡ EtfFault.BadAtom term))) }
+    ensures err { IfErr result (λ fault. (fault ≡ EtfFault.Memory) ⊎ ((255 < length (chars text.now))
+        × (fault ≡ EtfFault.BadAtom term))) }
 {
     match Term::atom(alloc, text) {
         Ok(t) => Ok(t),

@@ -1,49 +1,67 @@
-ghost use Rattle.std.specs.Prelude.{◌≡◌, ℕ, ◌<◌, ◌≤◌, ◌+◌, ◌^◌, ◌*◌, length, IfOk, IfErr, MatchOption};
+ghost use Rattle.std.specs.Prelude.{◌≡◌, ℕ, ◌<◌, ◌≤◌, ◌+◌, ◌^◌, length, IfOk, IfErr, OnErr};
 ghost use Rattle.etf_codec.specs.Format.{byte, times};
 ghost use Rattle.etf_codec.specs.Reads.{Reads};
-ghost use Rattle.etf_codec.specs.Spelling.{number, sized, count, magnitude_after};
+ghost use Rattle.etf_codec.specs.Spelling.{number, sized, count};
 
 use crate::EtfFault;
 use std::marker::Model;
 
-/// A place in some bytes: its offset and what is left.
+/// A place in some bytes that begin at an offset: its own offset and what is left.
 #[derive(Drop)]
 pub struct Cursor<'a> {
+    start: u64,
     bytes: &'a [u8],
     at: usize,
 }
 
 impl<'a> Model for Cursor<'a> {
-    ghost use Rattle.std.specs.Prelude.{◌≤◌, length};
+    ghost use Rattle.std.specs.Prelude.{◌≤◌, ◌<◌, ◌+◌, ◌^◌, length};
     ghost use Rattle.etf_codec.specs.Format.{Place};
     ghost use Rattle.etf_codec.specs.Reads.{place_at};
 
     ghost Value = { Place };
 
-    ghost view = { λ a. place_at a.bytes.now a.at };
+    ghost view = { λ a. place_at a.start a.bytes.now a.at };
 
-    ghost invariant = { λ a. a.at ≤ length a.bytes.now };
+    ghost invariant = { λ a. (a.at ≤ length a.bytes.now) × (a.start + length a.bytes.now < 2 ^ 64) };
 }
 
 impl<'a> Cursor<'a> {
-    /// At the front of some bytes.
-    pub fn new(bytes: &'a [u8]) -> Cursor<'a>
-        ensures offset { result.offset ≡ 0 }
-        ensures left { result.left ≡ bytes.now }
+    /// At the front of some bytes that begin at an offset.
+    pub fn new(start: u64, bytes: &'a [u8]) -> Cursor<'a>
+        requires { start + length bytes.now < 2 ^ 64 }
+        ensures { result ≡ record { offset = start; left = bytes.now } }
     {
-        Cursor { bytes, at: 0 }
+        Cursor {
+            start,
+            bytes,
+            at: 0,
+        }
     }
 
-    /// How many bytes stand before this place.
+    /// The offset of this place.
     pub fn offset(&self) -> u64
         ensures { result ≡ self.now.offset }
     {
-        self.at as u64
+        self.start + self.at as u64
     }
 
-    /// The next byte.
+    /// Another one at this place.
+    pub fn copied(&self) -> Cursor<'a>
+        ensures { result ≡ self.now }
+    {
+        Cursor {
+            start: self.start,
+            bytes: self.bytes,
+            at: self.at,
+        }
+    }
+
+    /// The next byte. Where there is none the place stays.
     pub fn byte(&mut self) -> Result<u8, EtfFault>
-        ensures { (term : ℕ) → Reads byte term self.old self.new result }
+        ensures reads { (term : ℕ) → Reads byte term self.old self.new result }
+        ensures shorter { IfOk result (λ x. length self.new.left < length self.old.left) }
+        ensures stays { OnErr result (self.new ≡ self.old) }
     {
         let value = *self.bytes.get(self.at).ok_or(EtfFault::Short)?;
         self.at += 1;
@@ -103,39 +121,5 @@ impl<'a> Cursor<'a> {
             }
         }
         Ok(0)
-    }
-
-    /// A little-endian magnitude of so many bytes in the integer that begins at an offset. `IntegerRange` at the
-    /// first byte with which it passes `most`.
-    pub fn magnitude(&mut self, size: u32, most: u128, term: u64) -> Result<u128, EtfFault>
-        ensures reads { Reads (magnitude_after most 1 0 size) term self.old self.new result }
-        ensures within { IfOk result (λ m. m ≤ most) }
-    {
-        let mut magnitude = 0;
-        for place in 0..size {
-            let digit = self.byte()?;
-            magnitude = raised(magnitude, digit, place, most).ok_or(EtfFault::IntegerRange(term))?;
-        }
-        Ok(magnitude)
-    }
-}
-
-/// A magnitude with one more byte, which stands at a place, counted from 0 and from the lowest; `None` where that is
-/// more than `most`.
-fn raised(magnitude: u128, digit: u8, place: u32, most: u128) -> Option<u128>
-    requires { magnitude ≤ most }
-    ensures { MatchOption result (most < magnitude + 256 ^ place * digit) (λ m. (m ≡ magnitude + 256 ^ place * digit) × (m ≤ most)) }
-{
-    if digit == 0 {
-        return Some(magnitude);
-    }
-    if place >= 16 {
-        return None;
-    }
-    let part = 256u128.pow(place) * u128::from(digit);
-    if part <= most - magnitude {
-        Some(magnitude + part)
-    } else {
-        None
     }
 }

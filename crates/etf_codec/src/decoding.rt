@@ -1,11 +1,9 @@
 //! Decoding of spellings.
 ghost use Rattle.etf_codec.specs.Decoding.{IsDecoding};
-ghost use Rattle.etf_codec.specs.Reads.{ReadsWithin};
-ghost use Rattle.etf_codec.specs.Spelling.{spelling};
 
 use crate::EtfFault;
 use crate::cursor::Cursor;
-use crate::term_reader::read_outermost;
+use crate::term_reader::TermReader;
 use dets_term::Term;
 use std::alloc::Global;
 
@@ -16,21 +14,10 @@ use std::alloc::Global;
 pub fn decode(alloc: Global, bytes: &[u8]) -> Result<(Term, usize), EtfFault>
     ensures { IsDecoding bytes.now result }
 {
-    let mut cursor = Cursor::new(bytes);
-    let term = read_spelling(alloc, &mut cursor)?;
+    let mut cursor = Cursor::new(0, bytes);
+    let mut reader = TermReader::new(alloc);
+    let term = reader.read(alloc, &mut cursor)?;
     Ok((term, cursor.offset() as usize))
-}
-
-/// The byte 131 and a term.
-fn read_spelling(alloc: Global, cursor: &mut Cursor<'_>) -> Result<Term, EtfFault>
-    ensures { ReadsWithin spelling cursor.old.offset cursor.old cursor.new result }
-{
-    let start = cursor.offset();
-    let version = cursor.byte()?;
-    if version != 131 {
-        return Err(EtfFault::NotVersion(start));
-    }
-    read_outermost(alloc, cursor)
 }
 
 #[cfg(test)]

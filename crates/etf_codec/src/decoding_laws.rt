@@ -10,7 +10,8 @@ ghost use Rattle.etf_codec.specs.declared.fault.EtfFault.TheVariants.{Memory};
 
 /// Bytes have one decoding, want of memory aside.
 pub fn bytes_have_one_decoding()
-    ensures { (bytes : List ℕ) (r s : Result (TermValue × ℕ) EtfFault) → IsDecoding bytes r → IsDecoding bytes s → r ≢ Err Memory → s ≢ Err Memory → r ≡ s }
+    ensures { (bytes : List ℕ) (r s : Result (TermValue × ℕ) EtfFault) → IsDecoding bytes r → IsDecoding bytes s
+        → r ≢ Err Memory → s ≢ Err Memory → r ≡ s }
 {}
 
 /// A spelling decodes to its term and its length, whatever follows.

@@ -1,10 +1,11 @@
 //! What stands behind a tag.
-ghost use Rattle.std.specs.Prelude.{◌≡◌, ◌≤◌, ◌<◌};
+ghost use Rattle.std.specs.Prelude.{ℕ, ◌≤◌};
 ghost use Rattle.etf_codec.specs.Heads.{HeadReads, HeadFits};
 ghost use Rattle.etf_codec.specs.ReadTerms.{body_of};
-ghost use Rattle.etf_codec.specs.Spelling.{part_at, tail_at, tuple_of, list_of, map_format};
+ghost use Rattle.etf_codec.specs.Spelling.{part_at, tail_at, tuple_of, list_of, map_format, big_integer};
 
 use crate::EtfFault;
+use crate::big_integer::BigInteger;
 use crate::building::only_memory;
 use crate::cursor::Cursor;
 use crate::frame::Frame;
@@ -20,6 +21,8 @@ pub(crate) enum Head {
     Whole(Term),
     /// It has parts, which are read next.
     Begun(Frame),
+    /// The bytes of its magnitude are read next.
+    Number(BigInteger),
 }
 
 /// What follows the tag of the term that begins at an offset, up to its first part. So many levels are left below it.
@@ -39,6 +42,8 @@ pub(crate) fn read_head(
         108 => list_head(alloc, cursor, levels, start),
         116 => map_head(alloc, cursor, levels, start),
         107 => Ok(Head::Whole(read_string(alloc, cursor, levels, start)?)),
+        110 => integer_head(cursor, 1, start),
+        111 => integer_head(cursor, 4, start),
         _ => Ok(Head::Whole(read_leaf(alloc, cursor, tag, start)?)),
     }
 }
@@ -93,4 +98,20 @@ fn map_head(
         return Ok(Head::Whole(empty));
     }
     Ok(Head::Begun(Frame::Key(count - 1, MapPairs::new(alloc))))
+}
+
+fn integer_head(cursor: &mut Cursor<'_>, size: u32, start: u64) -> Result<Head, EtfFault>
+    requires { size ≤ 4 }
+    ensures reads { (levels : ℕ) → HeadReads (big_integer size) levels start cursor.old cursor.new result }
+    ensures fits { (levels : ℕ) → HeadFits 110 levels result }
+{
+    let length = cursor.number(size)?;
+    let sign = cursor.byte()?;
+    Ok(Head::Number(BigInteger {
+        start,
+        sign,
+        length,
+        place: 0,
+        magnitude: 0,
+    }))
 }

@@ -25,7 +25,8 @@ pub(crate) fn join(alloc: Global, begun: Begun, at: u64, part: Term) -> Result<J
     requires frame { FrameFits begun.frame 255 }
     requires part { PartFits begun.frame 255 part }
     ensures joins { JoinsTo begun at part result }
-    ensures within { (levels : ℕ) → levels ≤ 255 → FrameFits begun.frame levels → PartFits begun.frame levels part → JoinsWithin begun levels result }
+    ensures within { (levels : ℕ) → levels ≤ 255 → FrameFits begun.frame levels → PartFits begun.frame levels part
+        → JoinsWithin begun levels result }
 {
     let Begun { start, frame } = begun;
     match frame {
@@ -47,7 +48,8 @@ fn join_element(
     requires frame { FrameFits (Element ahead parts) 255 }
     requires part { PartFits (Element ahead parts) 255 part }
     ensures joins { JoinsTo (record { start = start; frame = Element ahead parts }) at part result }
-    ensures within { (levels : ℕ) → levels ≤ 255 → FrameFits (Element ahead parts) levels → PartFits (Element ahead parts) levels part
+    ensures within { (levels : ℕ) → levels ≤ 255 → FrameFits (Element ahead parts) levels
+        → PartFits (Element ahead parts) levels part
         → JoinsWithin (record { start = start; frame = Element ahead parts }) levels result }
 {
     let mut parts = parts;
@@ -68,7 +70,8 @@ fn join_item(
     part: Term,
 ) -> Result<Joined, EtfFault>
     ensures joins { JoinsTo (record { start = start; frame = Item ahead parts }) at part result }
-    ensures within { (levels : ℕ) → levels ≤ 255 → FrameFits (Item ahead parts) levels → PartFits (Item ahead parts) levels part
+    ensures within { (levels : ℕ) → levels ≤ 255 → FrameFits (Item ahead parts) levels
+        → PartFits (Item ahead parts) levels part
         → JoinsWithin (record { start = start; frame = Item ahead parts }) levels result }
 {
     let mut parts = parts;
@@ -122,7 +125,8 @@ fn join_value(
     requires frame { FrameFits (Value ahead pairs key) 255 }
     requires part { PartFits (Value ahead pairs key) 255 value }
     ensures joins { JoinsTo (record { start = start; frame = Value ahead pairs key }) at value result }
-    ensures within { (levels : ℕ) → levels ≤ 255 → FrameFits (Value ahead pairs key) levels → PartFits (Value ahead pairs key) levels value
+    ensures within { (levels : ℕ) → levels ≤ 255 → FrameFits (Value ahead pairs key) levels
+        → PartFits (Value ahead pairs key) levels value
         → JoinsWithin (record { start = start; frame = Value ahead pairs key }) levels result }
 {
     let mut pairs = pairs;

@@ -44,7 +44,8 @@ pub fn the_last_byte_of_a_break_is_the_first_to_break_a_rule()
 /// A break stays one where the bytes begin at a greater offset, with its fault's offset greater by as much, and there
 /// are no others.
 pub fn breaks_move_with_the_offset_at_which_bytes_begin()
-    ensures kept { (start n : ℕ) (bytes : List ℕ) (fault : EtfFault) → IsBreak start bytes fault → IsBreak (start + n) bytes (moved n fault) }
+    ensures kept { (start n : ℕ) (bytes : List ℕ) (fault : EtfFault) → IsBreak start bytes fault
+        → IsBreak (start + n) bytes (moved n fault) }
     ensures no_others { (start n : ℕ) (bytes : List ℕ) (fault : EtfFault) → IsBreak (start + n) bytes fault
         → (f : EtfFault) × (fault ≡ moved n f) × IsBreak start bytes f }
 {}

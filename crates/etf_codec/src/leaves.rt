@@ -10,7 +10,7 @@ use crate::atoms::read_atom;
 use crate::bits::{read_binary, read_bit_binary};
 use crate::building::only_memory;
 use crate::cursor::Cursor;
-use crate::numbers::{integer_32, read_big_integer, small_integer};
+use crate::numbers::{integer_32, small_integer};
 use dets_term::{Term, TermList};
 use std::alloc::Global;
 
@@ -22,15 +22,13 @@ pub(crate) fn read_leaf(
     tag: u8,
     term: u64,
 ) -> Result<Term, EtfFault>
-    requires { (tag ≢ 104) × (tag ≢ 105) × (tag ≢ 107) × (tag ≢ 108) × (tag ≢ 116) }
+    requires { (tag ≢ 104) × (tag ≢ 105) × (tag ≢ 107) × (tag ≢ 108) × (tag ≢ 116) × (tag ≢ 110) × (tag ≢ 111) }
     ensures reads { (levels : ℕ) → ReadsWithin (body_of levels tag) term cursor.old cursor.new result }
     ensures leaf { IfOk result IsLeaf }
 {
     match tag {
         97 => small_integer(cursor),
         98 => integer_32(cursor),
-        110 => read_big_integer(cursor, 1, term),
-        111 => read_big_integer(cursor, 4, term),
         100 => read_atom(alloc, cursor, false, 2, term),
         115 => read_atom(alloc, cursor, false, 1, term),
         118 => read_atom(alloc, cursor, true, 2, term),

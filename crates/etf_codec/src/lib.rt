@@ -2,16 +2,20 @@
 //!
 //! Stands on `dets_term`, and on `bstr` for UTF-8. `encode` writes the canonical spelling of a term. `decode` reads
 //! each spelling, and `skip` passes over terms of more kinds; both are exact to the first byte that breaks a rule.
+//! `TermFeed`, on `bytes`, takes them from a stream that comes in pieces.
 //! What bytes mean is in `specs/Spelling.antt`, put together by `specs/Format.antt`.
 #![tactic(auto)]
 
 pub use decoding::decode;
 pub use encoding::encode;
 pub use fault::EtfFault;
+pub use fed::Fed;
+pub use feed::TermFeed;
 pub use skipping::skip;
 pub use std::alloc::AllocError as Memory;
 
 mod atoms;
+mod big_integer;
 mod bits;
 mod building;
 mod cursor;
@@ -20,6 +24,9 @@ pub mod decoding_laws;
 mod encoding;
 pub mod encoding_laws;
 mod fault;
+mod fed;
+mod feed;
+pub mod feed_laws;
 mod frame;
 mod head;
 mod joining;

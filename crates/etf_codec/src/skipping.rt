@@ -17,7 +17,7 @@ const MAX_LEVELS: u32 = 256;
 pub fn skip(bytes: &[u8]) -> Result<usize, EtfFault>
     ensures { SkipsBy bytes.now result }
 {
-    let mut cursor = Cursor::new(bytes);
+    let mut cursor = Cursor::new(0, bytes);
     skip_term(&mut cursor, MAX_LEVELS)?;
     Ok(cursor.offset() as usize)
 }

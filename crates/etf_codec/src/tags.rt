@@ -1,5 +1,5 @@
 //! Tags, and where they may stand.
-ghost use Rattle.std.specs.Prelude.{◌≡◌, ◌==◌, cond};
+ghost use Rattle.std.specs.Prelude.{◌≡◌, ◌<◌, ◌==◌, cond, length, IfOk};
 ghost use Rattle.etf_codec.specs.Layout.{is_known, begins_tail};
 ghost use Rattle.etf_codec.specs.Tags.{TagReads, BeginsTail};
 ghost use Rattle.etf_codec.specs.declared.tags.Position.TheVariants.{First, Part, Tail};
@@ -22,6 +22,7 @@ pub(crate) enum Position {
 pub(crate) fn read_tag(cursor: &mut Cursor<'_>, position: Position) -> Result<u8, EtfFault>
     ensures reads { TagReads position cursor.old cursor.new result }
     ensures tail { BeginsTail position result }
+    ensures forward { IfOk result (λ tag. length cursor.new.left < length cursor.old.left) }
 {
     match position {
         Position::First => first_tag(cursor),
@@ -31,7 +32,8 @@ pub(crate) fn read_tag(cursor: &mut Cursor<'_>, position: Position) -> Result<u8
 }
 
 fn first_tag(cursor: &mut Cursor<'_>) -> Result<u8, EtfFault>
-    ensures { TagReads First cursor.old cursor.new result }
+    ensures reads { TagReads First cursor.old cursor.new result }
+    ensures forward { IfOk result (λ tag. length cursor.new.left < length cursor.old.left) }
 {
     let start = cursor.offset();
     let tag = cursor.byte()?;
@@ -42,7 +44,8 @@ fn first_tag(cursor: &mut Cursor<'_>) -> Result<u8, EtfFault>
 }
 
 fn part_tag(cursor: &mut Cursor<'_>) -> Result<u8, EtfFault>
-    ensures { TagReads Part cursor.old cursor.new result }
+    ensures reads { TagReads Part cursor.old cursor.new result }
+    ensures forward { IfOk result (λ tag. length cursor.new.left < length cursor.old.left) }
 {
     let start = cursor.offset();
     let tag = cursor.byte()?;
@@ -55,6 +58,7 @@ fn part_tag(cursor: &mut Cursor<'_>) -> Result<u8, EtfFault>
 fn tail_tag(cursor: &mut Cursor<'_>) -> Result<u8, EtfFault>
     ensures reads { TagReads Tail cursor.old cursor.new result }
     ensures tail { BeginsTail Tail result }
+    ensures forward { IfOk result (λ tag. length cursor.new.left < length cursor.old.left) }
 {
     let start = cursor.offset();
     let tag = cursor.byte()?;

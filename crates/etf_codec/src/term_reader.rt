@@ -1,11 +1,11 @@
 //! Reading a term part by part.
-ghost use Rattle.std.specs.Prelude.{◌≡◌, ℕ, ◌≤◌, ◌∷◌, OnOk, reverse, length};
+ghost use Rattle.std.specs.Prelude.{◌≡◌, ◌<◌, ◌∷◌, IfOk, OnOk, reverse, length};
 ghost use Rattle.etf_codec.specs.Begun.{MayCome};
-ghost use Rattle.etf_codec.specs.Reads.{ReadsWithin};
-ghost use Rattle.etf_codec.specs.Spelling.{outermost};
 ghost use Rattle.etf_codec.specs.Tags.{next_position, next_in};
-ghost use Rattle.etf_codec.specs.TermReader.{IsNest, Completes, NextReads};
+ghost use Rattle.etf_codec.specs.TermReader.{IsFresh, IsReader, IsNest, Completes, VersionReads, NextReads, StepReads, ReaderReads, ahead};
+ghost use Rattle.etf_codec.specs.declared.term_reader.Stage.TheVariants.{Part};
 
+use crate::big_integer::BigInteger;
 use crate::cursor::Cursor;
 use crate::frame::{Begun, Frame};
 use crate::head::{Head, read_head};
@@ -15,44 +15,127 @@ use crate::{EtfFault, Memory};
 use dets_term::Term;
 use std::alloc::Global;
 
-/// The first term.
-pub(crate) fn read_outermost(alloc: Global, cursor: &mut Cursor<'_>) -> Result<Term, EtfFault>
-    ensures { (term : ℕ) → ReadsWithin outermost term cursor.old cursor.new result }
-{
-    let mut begun = Vec::new(alloc);
-    // Each turn takes a byte at least, so these are never too few.
-    for _ in 0..u64::MAX {
-        let answer = read_next(alloc, cursor, &mut begun)?;
-        match answer {
-            Some(term) => return Ok(term),
-            None => {}
-        }
-    }
-    Err(EtfFault::Memory)
+/// Which bytes of a spelling come next.
+#[derive(Drop)]
+pub(crate) enum Stage {
+    /// The byte in front of the term.
+    Version,
+    /// A part of the innermost term that is begun, or the whole term.
+    Part,
+    /// The magnitude of a part.
+    Number(BigInteger),
 }
 
-/// The next part of the innermost begun term, up to its own first part. `None` where there is more to read, else the
-/// outermost term.
-fn read_next(
-    alloc: Global,
-    cursor: &mut Cursor<'_>,
-    begun: &mut Vec<Begun>,
-) -> Result<Option<Term>, EtfFault>
-    requires { IsNest begun.old.items }
-    ensures { NextReads begun.old.items begun.new.items cursor.old cursor.new result }
+/// What was read of a spelling.
+#[derive(Drop)]
+pub(crate) struct TermReader {
+    stage: Stage,
+    begun: Vec<Begun>,
+}
+
+impl TermReader {
+    /// Nothing was read. It takes no memory yet.
+    pub(crate) fn new(alloc: Global) -> TermReader
+        ensures { IsFresh result }
+    {
+        TermReader {
+            stage: Stage::Version,
+            begun: Vec::new(alloc),
+        }
+    }
+
+    /// Reads on, from the place that was come to. After `Short` it goes on where the bytes ended; after any other answer
+    /// it is of no more use.
+    pub(crate) fn read(&mut self, alloc: Global, cursor: &mut Cursor<'_>) -> Result<Term, EtfFault>
+        requires { IsReader self.old }
+        ensures { ReaderReads self.old self.new cursor.old cursor.new result }
+    {
+        loop {
+            let answer = self.step(alloc, cursor)?;
+            match answer {
+                Some(term) => return Ok(term),
+                None => {}
+            }
+        }
+    }
+
+    /// The byte in front, the next part up to its own first part, or a magnitude. `None` where there is more to read,
+    /// else the term.
+    fn step(&mut self, alloc: Global, cursor: &mut Cursor<'_>) -> Result<Option<Term>, EtfFault>
+        requires { IsReader self.old }
+        ensures reads { StepReads self.old self.new cursor.old cursor.new result }
+        ensures forward { IfOk result (λ term. ahead self.new cursor.new < ahead self.old cursor.old) }
+    {
+        match &mut self.stage {
+            Stage::Version => {
+                read_version(cursor)?;
+                self.stage = Stage::Part;
+                Ok(None)
+            }
+            Stage::Part => self.read_part(alloc, cursor),
+            Stage::Number(number) => {
+                let start = number.start;
+                let integer = number.read(cursor)?;
+                self.stage = Stage::Part;
+                complete(alloc, &mut self.begun, start, integer)
+            }
+        }
+    }
+
+    /// The next part, up to its own first part or its magnitude. `None` where there is more to read, else the term.
+    fn read_part(
+        &mut self,
+        alloc: Global,
+        cursor: &mut Cursor<'_>,
+    ) -> Result<Option<Term>, EtfFault>
+        requires reader { IsReader self.old }
+        requires stage { self.old.stage ≡ Part }
+        ensures reads { StepReads self.old self.new cursor.old cursor.new result }
+        ensures forward { IfOk result (λ term. ahead self.new cursor.new < ahead self.old cursor.old) }
+    {
+        let start = cursor.offset();
+        let head = read_next(alloc, &self.begun, cursor)?;
+        match head {
+            Head::Whole(term) => complete(alloc, &mut self.begun, start, term),
+            Head::Begun(frame) => {
+                push_begun(&mut self.begun, Begun { start, frame })?;
+                Ok(None)
+            }
+            Head::Number(number) => {
+                self.stage = Stage::Number(number);
+                Ok(None)
+            }
+        }
+    }
+}
+
+/// The byte 131.
+fn read_version(cursor: &mut Cursor<'_>) -> Result<(), EtfFault>
+    ensures reads { VersionReads cursor.old cursor.new result }
+    ensures forward { IfOk result (λ none. length cursor.new.left < length cursor.old.left) }
+{
+    let start = cursor.offset();
+    let version = cursor.byte()?;
+    if version != 131 {
+        return Err(EtfFault::NotVersion(start));
+    }
+    Ok(())
+}
+
+/// The tag of the next part and what follows it. After a fault the place is as it was.
+fn read_next(alloc: Global, begun: &Vec<Begun>, cursor: &mut Cursor<'_>) -> Result<Head, EtfFault>
+    requires { IsNest begun.now.items }
+    ensures reads { NextReads begun.now.items cursor.old cursor.new result }
+    ensures forward { IfOk result (λ head. length cursor.new.left < length cursor.old.left) }
 {
     let start = cursor.offset();
     let levels = 255 - begun.len() as u32;
     let position = next_position(begun);
-    let tag = read_tag(cursor, position)?;
-    let head = read_head(alloc, cursor, tag, levels, start)?;
-    match head {
-        Head::Whole(term) => complete(alloc, begun, start, term),
-        Head::Begun(frame) => {
-            push_begun(begun, Begun { start, frame })?;
-            Ok(None)
-        }
-    }
+    let mut behind = cursor.copied();
+    let tag = read_tag(&mut behind, position)?;
+    let head = read_head(alloc, &mut behind, tag, levels, start)?;
+    *cursor = behind;
+    Ok(head)
 }
 
 /// Where the next part stands.

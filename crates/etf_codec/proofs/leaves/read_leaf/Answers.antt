@@ -3,8 +3,8 @@ use Rattle.dets_term.specs.TermValue.{integer}
 use Rattle.etf_codec.specs.Format.{byte, changed}
 use Rattle.etf_codec.specs.Layout.{signed_32}
 use Rattle.etf_codec.specs.ReadTerms.{body_of}
-use Rattle.etf_codec.specs.Spelling.{number, big_integer, name, binary, bit_binary}
-use Rattle.etf_codec.proofs.Bodies.{body-empty_list, body-small_integer, body-integer_32, body-small_big, body-large_big, body-atom, body-small_atom, body-atom_utf8, body-small_atom_utf8, body-binary, body-bit_binary}
+use Rattle.etf_codec.specs.Spelling.{number, name, binary, bit_binary}
+use Rattle.etf_codec.proofs.Bodies.{body-empty_list, body-small_integer, body-integer_32, body-atom, body-small_atom, body-atom_utf8, body-small_atom_utf8, body-binary, body-bit_binary}
 use Rattle.etf_codec.proofs.Within.{within_reads, within_same, within_made}
 use Rattle.etf_codec.proofs.leaves.read_leaf.Goals as goal
 
@@ -17,16 +17,6 @@ pub returns-in-98-clause-reads : goal.returns-in-98-clause-reads
 returns-in-98-clause-reads c levels =
     within_reads (changed (number 4) (λ n. integer (signed_32 n))) (body_of levels c.args.tag) c.args.term c.args.cursor.now c.integer_32.new.cursor c.integer_32.result
     (body-integer_32 levels c.args.tag c.args.term c.args.cursor.now c.in-98.is) (c.integer_32.ensures.reads c.args.term)
-
-pub returns-in-110-clause-reads : goal.returns-in-110-clause-reads
-returns-in-110-clause-reads c levels =
-    within_reads (big_integer 1) (body_of levels c.args.tag) c.args.term c.args.cursor.now c.read_big_integer.new.cursor c.read_big_integer.result
-    (body-small_big levels c.args.tag c.args.term c.args.cursor.now c.in-110.is) c.read_big_integer.ensures.reads
-
-pub returns-in-111-clause-reads : goal.returns-in-111-clause-reads
-returns-in-111-clause-reads c levels =
-    within_reads (big_integer 4) (body_of levels c.args.tag) c.args.term c.args.cursor.now c.read_big_integer-in-111.new.cursor c.read_big_integer-in-111.result
-    (body-large_big levels c.args.tag c.args.term c.args.cursor.now c.in-111.is) c.read_big_integer-in-111.ensures.reads
 
 pub returns-in-100-clause-reads : goal.returns-in-100-clause-reads
 returns-in-100-clause-reads c levels =

@@ -25,16 +25,16 @@ skip_parts-loop-preserved t c term =
 pub skip_term-returns-in_err-tag : goal.skip_term-returns-in_err-tag
 skip_term-returns-in_err-tag t c term =
     reads_fault (skipped_at c.args.levels) term c.args.cursor.now c.byte.new.self c.from_residual.result _ c.from_residual.ensures.1
-    (term_end c.args.levels term c.args.cursor.now _ (c.in_err-tag.ensures term))
+    (term_end c.args.levels term c.args.cursor.now _ (c.in_err-tag.ensures.reads term))
 
 pub skip_term-returns-then-levels-eq0 : goal.skip_term-returns-then-levels-eq0
 skip_term-returns-then-levels-eq0 t c term =
-    term_deep c.args.levels term c.args.cursor.now c.byte.new.self c.in_ok-tag.tag (omega arith) (c.in_ok-tag.ensures term)
+    term_deep c.args.levels term c.args.cursor.now c.byte.new.self c.in_ok-tag.tag (omega arith) (c.in_ok-tag.ensures.reads term)
     ∙ ap (λ at. Err (Depth at)) (sym c.offset-at.ensures)
 
 pub skip_term-returns : goal.skip_term-returns
 skip_term-returns t c term =
-    term_behind c.args.levels term c.args.cursor.now c.byte.new.self c.skip_tagged.new.cursor c.in_ok-tag.tag c.offset-at.result c.skip_tagged.result (omega arith) c.offset-at.ensures (c.in_ok-tag.ensures term) c.skip_tagged.ensures
+    term_behind c.args.levels term c.args.cursor.now c.byte.new.self c.skip_tagged.new.cursor c.in_ok-tag.tag c.offset-at.result c.skip_tagged.result (omega arith) c.offset-at.ensures (c.in_ok-tag.ensures.reads term) c.skip_tagged.ensures
 
 pub skip_tagged-returns-in-97 : goal.skip_tagged-returns-in-97
 skip_tagged-returns-in-97 t c = at_tag 97 c.args.levels c.args.at c.args.tag c.args.cursor.now c.skip_bytes.new.cursor c.skip_bytes.result c.in-97.is refl (c.skip_bytes.ensures c.args.at)

@@ -1,4 +1,4 @@
-use Rattle.std.proofs.Common.{◌≡◌, ℕ, List, Result, Ok, Err, ap, sym, ◌∙◌, subst}
+use Rattle.std.proofs.Common.{◌≡◌, ℕ, List, Result, Ok, Err, ap, sym, ◌∙◌, subst, arith}
 use Rattle.std.specs.Result.{IsErrAnd}
 use Rattle.etf_codec.specs.declared.fault.EtfFault.{EtfFault}
 use Rattle.etf_codec.specs.Format.{Place}
@@ -11,23 +11,20 @@ use Rattle.etf_codec.proofs.skipping.skip.Goals as goal
 refused : (bytes : List ℕ) (fault : EtfFault) → skipped.read 0 (record { offset = 0; left = bytes }) ≡ Err fault → SkipsBy bytes (Err fault)
 refused bytes fault e = (
   λ want. skipped_needs_no_memory 0 (record { offset = 0; left = bytes }) (e ∙ ap Err want),
-  fault_read skipped skipped-exact bytes fault e,
+  fault_read skipped skipped-exact 0 bytes fault e,
 )
 
-answered : (bytes : List ℕ) (place : Place) (fault : EtfFault) (answer : Result ℕ EtfFault) → place.offset ≡ 0 → place.left ≡ bytes
+answered : (bytes : List ℕ) (place : Place) (fault : EtfFault) (answer : Result ℕ EtfFault) → place ≡ record { offset = 0; left = bytes }
     → IsErrAnd answer (λ y. y ≡ fault) → skipped.read 0 place ≡ Err fault → SkipsBy bytes answer
-answered bytes place fault (Ok count) at left h e = absurd h
-answered bytes place fault (Err why) at left h e =
-    refused bytes why
-    (ap (λ (n : ℕ). skipped.read 0 (record { offset = n; left = bytes })) (sym at)
-    ∙ ap (λ (l : List ℕ). skipped.read 0 (record { offset = place.offset; left = l })) (sym left)
-    ∙ e ∙ ap Err (sym h))
+answered bytes place fault (Ok count) begins h e = absurd h
+answered bytes place fault (Err why) begins h e = refused bytes why (ap (skipped.read 0) (sym begins) ∙ e ∙ ap Err (sym h))
 
 pub returns-in_err-skip_term : goal.returns-in_err-skip_term
 returns-in_err-skip_term c =
-    answered c.args.bytes.now c.new-cursor.result _ c.from_residual.result c.new-cursor.ensures.offset c.new-cursor.ensures.left c.from_residual.ensures.1 (c.in_err-skip_term.ensures 0)
+    answered c.args.bytes.now c.new-cursor.result _ c.from_residual.result c.new-cursor.ensures c.from_residual.ensures.1 (c.in_err-skip_term.ensures 0)
 
 pub returns : goal.returns
 returns c =
-    subst (λ (l : List ℕ). IsFront skipped l tt c.offset.result) c.new-cursor.ensures.left
-    (front_read skipped skipped-exact c.new-cursor.result c.skip_term.new.cursor tt c.offset.result c.new-cursor.ensures.offset c.offset.ensures (c.in_ok-skip_term.ensures 0))
+    subst (λ (p : Place). IsFront skipped p.left tt c.offset.result) c.new-cursor.ensures
+    (front_read skipped skipped-exact 0 c.new-cursor.result c.skip_term.new.cursor tt c.offset.result (ap (λ (p : Place). p.offset) c.new-cursor.ensures)
+    (sym c.offset.ensures ∙ omega arith) (c.in_ok-skip_term.ensures 0))

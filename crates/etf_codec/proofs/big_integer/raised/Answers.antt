@@ -1,6 +1,6 @@
 use Rattle.std.proofs.Common.{arith}
 use Rattle.etf_codec.proofs.Magnitudes.{part_fits, weight_fits, part_passes}
-use Rattle.etf_codec.proofs.cursor.raised.Goals as goal
+use Rattle.etf_codec.proofs.big_integer.raised.Goals as goal
 
 pub returns-then-place-ge16 : goal.returns-then-place-ge16
 returns-then-place-ge16 c = omega (arith, part_passes c.args.place c.args.digit (omega arith) (omega arith))
