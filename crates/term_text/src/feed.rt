@@ -8,20 +8,9 @@ ghost use Rattle.term_text.specs.declared.feed.TextFault.TheVariants.{Memory as 
 
 use crate::Memory;
 use crate::reader::{Reader, is_white_space};
-use dets_term::Term;
+use etf_codec::Fed;
 use std::alloc::{AllocFailed, Global};
 use std::marker::Model;
-
-/// What a feed answers.
-#[derive(Drop)]
-pub enum Fed {
-    /// The next term of the stream.
-    Term(Term),
-    /// More input is needed.
-    Again,
-    /// The input is finished, and all terms were taken.
-    End,
-}
 
 /// Why a feed does not answer.
 #[derive(Clone, Copy, Debug, PartialEq, Eq)]
