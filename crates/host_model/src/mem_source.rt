@@ -1,5 +1,5 @@
 // A source in memory.
-ghost use Rattle.std.specs.Prelude.{◌≡◌, ◌↔◌, ◌<◌, ◌≤◌, [], length, take, drop, min, option_map, IfSome, IfOk, OnErr, IsErr, IsTrue};
+ghost use Rattle.std.specs.Prelude.{◌≡◌, ◌↔◌, ◌<◌, ◌≤◌, [], length, take, drop, min, option_map, IfSome, IfOk, OnOk, OnErr, IsErr, IsTrue};
 ghost use Rattle.host_model.specs.Counts.{Rose, is_listed};
 ghost use Rattle.host_model.specs.Source.{after_read};
 ghost use Rattle.host_model.specs.MemSource.{MemSourceState, fresh_source, told_of, source_after_read, source_after_fault};
@@ -71,6 +71,7 @@ impl Source for MemSource {
         ensures there { IfOk result (λ n. IfSome (told_of self.old) (λ s. n ≤ length s.left)) }
         ensures given { IfOk result (λ n. IfSome (told_of self.old) (λ s. take n buf.new ≡ take n s.left)) }
         ensures end { IfOk result (λ n. IfSome (told_of self.old) (λ s. (n ≡ 0) ↔ (s.left ≡ []))) }
+        ensures ok_faults { OnOk result (self.new.faults ≡ self.old.faults) }
         ensures untaken { OnErr result (told_of self.new ≡ told_of self.old) }
         ensures cause { OnErr result (Rose self.old.faults self.new.faults) }
         ensures never_falls { self.old.faults ≤ self.new.faults }

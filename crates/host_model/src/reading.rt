@@ -1,5 +1,5 @@
 // What bytes are read from.
-ghost use Rattle.std.specs.Prelude.{◌≡◌, ◌↔◌, ◌<◌, ◌≤◌, ℕ, [], length, take, Option, option_map, IfSome, IfOk, OnErr};
+ghost use Rattle.std.specs.Prelude.{◌≡◌, ◌↔◌, ◌<◌, ◌≤◌, ℕ, [], length, take, Option, option_map, IfSome, IfOk, OnOk, OnErr};
 ghost use Rattle.host_model.specs.Counts.{Rose};
 ghost use Rattle.host_model.specs.Source.{Stream, after_read};
 
@@ -27,6 +27,8 @@ pub trait Source {
         ensures there { IfOk result (λ n. IfSome (told self.old) (λ s. n ≤ length s.left)) }
         ensures given { IfOk result (λ n. IfSome (told self.old) (λ s. take n buf.new ≡ take n s.left)) }
         ensures end { IfOk result (λ n. IfSome (told self.old) (λ s. (n ≡ 0) ↔ (s.left ≡ []))) }
+
+        ensures ok_faults { OnOk result (faults self.new ≡ faults self.old) }
 
         ensures untaken { OnErr result (told self.new ≡ told self.old) }
         ensures cause { OnErr result (Rose (faults self.old) (faults self.new)) }

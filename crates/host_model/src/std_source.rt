@@ -48,11 +48,11 @@ impl<R: Input> Source for StdSource<R> {
     fn read(&mut self, buf: &mut [u8]) -> Result<usize, SourceFailed>
         requires { 0 < length buf.old }
         ensures fits { IfOk result (λ n. n ≤ length buf.new) }
+        ensures ok_faults { OnOk result (self.new.faults ≡ self.old.faults) }
         ensures cause { OnErr result (Rose self.old.faults self.new.faults) }
         ensures never_falls { self.old.faults ≤ self.new.faults }
 
         // What this source adds.
-        ensures ok { OnOk result (self.new.faults ≡ self.old.faults) }
         ensures err { OnErr result (self.new.faults ≡ raised self.old.faults) }
 
         // At a reader that tells what it has left, as standard input does not: just that is given.
