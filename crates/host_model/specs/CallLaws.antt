@@ -5,6 +5,7 @@ use Rattle.std.proofs.lemmas.Bool.{leb-true, le-leb, or_parts, and_parts, cases_
 use Rattle.std.proofs.lemmas.List.{take_all}
 use Rattle.std.proofs.lemmas.Option.{same_Some}
 use Rattle.std.proofs.Math.Bool.{and-true}
+use Rattle.host_model.specs.Counts.{count_fits}
 use Rattle.host_model.specs.Disk.{are_bytes, range, in_doubt, furthest, DiffersIn, IsImage}
 use Rattle.host_model.specs.Torn.{length-written_at, DiffersIn-written, DiffersIn-refl, DiffersIn-more, untouched, torn_last, are_bytes-written_at, is_in-false}
 use Rattle.host_model.specs.Host.{Left, Shown, IsCoherent, IsGrown, Tears, Stays, Says, Reached, Rests, Goes}
@@ -81,146 +82,149 @@ pub grown_whole : (piece old : List ℕ) → IsGrown piece old (old ++ piece)
 grown_whole piece old = record { count = length piece; fits = omega arith; grown = ap (λ l. old ++ l) (sym (take_all (length piece) piece (omega arith))) }
 
 -- what is left now: what a read gives among it
-pub left_now : (begun : Left) (calls : List Call) → is_possible begun.image calls ≡ true → LeftAfter begun calls None (record { image = file_after begun.image calls; output = said_after begun.output calls })
-left_now begun calls p = record {
+pub left_now : (origin : Left) (calls : List Call) → is_possible origin.image calls ≡ true → LeftAfter origin calls None (record { image = file_after origin.image calls; output = said_after origin.output calls })
+left_now origin calls p = record {
   possible = p;
-  image = record { differs = file_differs begun.image calls p; bytes = file_bytes begun.image calls p };
-  output = grown_none (said_after begun.output calls);
+  image = record { differs = file_differs origin.image calls p; bytes = file_bytes origin.image calls p };
+  output = grown_none (said_after origin.output calls);
 }
 
-pub since_bound : (begun : Left) (calls : List Call) (t : ℕ) (c : Left) → LeftSince begun calls t c → t ≤ length calls
-since_bound begun [] t c h = h.0
-since_bound begun (call ∷ calls) t c h =
-    ⊎_elim (λ now. omega (arith, now.0)) (λ before. ⊎_elim (λ within. omega (arith, within.0)) (λ earlier. omega (arith, since_bound begun calls t c earlier)) before) h
+pub since_bound : (origin : Left) (calls : List Call) (t : ℕ) (c : Left) → LeftSince origin calls t c → t ≤ length calls
+since_bound origin [] t c h = h.0
+since_bound origin (call ∷ calls) t c h =
+    ⊎_elim (λ now. omega (arith, now.0)) (λ before. ⊎_elim (λ within. omega (arith, within.0)) (λ earlier. omega (arith, since_bound origin calls t c earlier)) before) h
 
-pub since_now : (begun : Left) (calls : List Call) (c : Left) → LeftAfter begun calls None c → LeftSince begun calls (length calls) c
-since_now begun [] c h = (omega arith, h)
-since_now begun (call ∷ calls) c h = inl (omega arith, h)
+pub since_now : (origin : Left) (calls : List Call) (c : Left) → LeftAfter origin calls None c → LeftSince origin calls (length calls) c
+since_now origin [] c h = (omega arith, h)
+since_now origin (call ∷ calls) c h = inl (omega arith, h)
 
-pub now_only : (begun : Left) (calls : List Call) (c : Left) → LeftSince begun calls (length calls) c → LeftAfter begun calls None c
-now_only begun [] c h = h.1
-now_only begun (call ∷ calls) c h =
-    ⊎_elim (λ now. now.1) (λ before. absurd (⊎_elim (λ within. omega (arith, within.0)) (λ earlier. omega (arith, since_bound begun calls _ c earlier)) before)) h
+pub now_only : (origin : Left) (calls : List Call) (c : Left) → LeftSince origin calls (length calls) c → LeftAfter origin calls None c
+now_only origin [] c h = h.1
+now_only origin (call ∷ calls) c h =
+    ⊎_elim (λ now. now.1) (λ before. absurd (⊎_elim (λ within. omega (arith, within.0)) (λ earlier. omega (arith, since_bound origin calls _ c earlier)) before)) h
 
-pub since_earlier : (begun : Left) (calls : List Call) (s t : ℕ) (c : Left) → s ≤ t → LeftSince begun calls t c → LeftSince begun calls s c
-since_earlier begun [] s t c l h = (omega (arith, h.0), h.1)
-since_earlier begun (call ∷ calls) s t c l h =
-    ⊎_elim (λ now. inl (omega (arith, now.0), now.1)) (λ before. inr (⊎_elim (λ within. inl (omega (arith, within.0), within.1)) (λ earlier. inr (since_earlier begun calls s t c l earlier)) before)) h
+pub since_earlier : (origin : Left) (calls : List Call) (s t : ℕ) (c : Left) → s ≤ t → LeftSince origin calls t c → LeftSince origin calls s c
+since_earlier origin [] s t c l h = (omega (arith, h.0), h.1)
+since_earlier origin (call ∷ calls) s t c l h =
+    ⊎_elim (λ now. inl (omega (arith, now.0), now.1)) (λ before. inr (⊎_elim (λ within. inl (omega (arith, within.0), within.1)) (λ earlier. inr (since_earlier origin calls s t c l earlier)) before)) h
 
-pub since_bytes : (begun : Left) (calls : List Call) (t : ℕ) (c : Left) → LeftSince begun calls t c → are_bytes c.image ≡ true
-since_bytes begun [] t c h = h.1.image.bytes
-since_bytes begun (call ∷ calls) t c h =
-    ⊎_elim (λ now. now.1.image.bytes) (λ before. ⊎_elim (λ within. within.1.image.bytes) (λ earlier. since_bytes begun calls t c earlier) before) h
+pub since_bytes : (origin : Left) (calls : List Call) (t : ℕ) (c : Left) → LeftSince origin calls t c → are_bytes c.image ≡ true
+since_bytes origin [] t c h = h.1.image.bytes
+since_bytes origin (call ∷ calls) t c h =
+    ⊎_elim (λ now. now.1.image.bytes) (λ before. ⊎_elim (λ within. within.1.image.bytes) (λ earlier. since_bytes origin calls t c earlier) before) h
 
 pub is_coherent : (h : MemHostState) → IsCoherent (shown_of h)
 is_coherent h = record {
-  now_left = λ p f o e d. subst (λ x. LeftAfter h.begun h.calls None (record { image = x; output = o })) (same_Some _ _ e)
-      (subst (λ y. LeftAfter h.begun h.calls None (record { image = file_after h.begun.image h.calls; output = y })) (same_Some _ _ d) (left_now h.begun h.calls p));
+  now_left = λ p f o e d. subst (λ x. LeftAfter h.origin h.calls None (record { image = x; output = o })) (same_Some _ _ e)
+      (subst (λ y. LeftAfter h.origin h.calls None (record { image = file_after h.origin.image h.calls; output = y })) (same_Some _ _ d) (left_now h.origin h.calls p));
   outputs = λ c left o e. grown_by_none _ _ left.output ∙ same_Some _ _ e;
-  counts_now = λ c left. since_now h.begun h.calls c left;
-  only_now = λ c left. now_only h.begun h.calls c left;
-  earlier = λ s t c l left. since_earlier h.begun h.calls s t c l left;
-  bytes = λ t c left. since_bytes h.begun h.calls t c left;
+  counts_now = λ c left. since_now h.origin h.calls c left;
+  only_now = λ c left. now_only h.origin h.calls c left;
+  earlier = λ s t c l left. since_earlier h.origin h.calls s t c l left;
+  bytes = λ t c left. since_bytes h.origin h.calls t c left;
+  reads_fit = count_fits h.reads;
+  disk_faults_fit = count_fits h.disk_faults;
+  out_faults_fit = count_fits h.out_faults;
 }
 
 -- a write: after it and while it runs
 
-pub write_left : (begun : Left) (calls : List Call) (at : ℕ) (bytes : List ℕ) (c : Left) → is_possible begun.image calls ≡ true → at ≤ length (file_after begun.image calls)
-    → IsImage (range at (length bytes) ∷ unsynced calls) (synced_after begun.image calls) c.image → IsGrown [] (said_after begun.output calls) c.output → Reached (Tears at (length bytes)) (LeftAfter begun calls None) c
-write_left begun calls at bytes c p l image output =
-    let long = file_length begun.image calls p in
-    let apart = torn_last (range at (length bytes)) (unsynced calls) (synced_after begun.image calls) c.image (omega (arith, long)) (no_gap begun.image calls p) image.differs (synced_bytes begun.image calls p) image.bytes in
+pub write_left : (origin : Left) (calls : List Call) (at : ℕ) (bytes : List ℕ) (c : Left) → is_possible origin.image calls ≡ true → at ≤ length (file_after origin.image calls)
+    → IsImage (range at (length bytes) ∷ unsynced calls) (synced_after origin.image calls) c.image → IsGrown [] (said_after origin.output calls) c.output → Reached (Tears at (length bytes)) (LeftAfter origin calls None) c
+write_left origin calls at bytes c p l image output =
+    let long = file_length origin.image calls p in
+    let apart = torn_last (range at (length bytes)) (unsynced calls) (synced_after origin.image calls) c.image (omega (arith, long)) (no_gap origin.image calls p) image.differs (synced_bytes origin.image calls p) image.bytes in
     record {
       start = record { image = apart.0; output = c.output };
       was_left = record { possible = p; image = record { differs = apart.1; bytes = apart.3 }; output = output };
-      stepped = record { image = record { differs = apart.2; bytes = image.bytes }; output = refl };
+      done = record { image = record { differs = apart.2; bytes = image.bytes }; output = refl };
     }
 
-pub write_within : (begun : Left) (calls : List Call) (at : ℕ) (bytes : List ℕ) (c : Left) → Reached (Tears at (length bytes)) (LeftAfter begun calls None) c → LeftAfter begun calls (Some (Wrote at bytes)) c
-write_within begun calls at bytes c r = record {
+pub write_within : (origin : Left) (calls : List Call) (at : ℕ) (bytes : List ℕ) (c : Left) → Reached (Tears at (length bytes)) (LeftAfter origin calls None) c → LeftAfter origin calls (Some (Wrote at bytes)) c
+write_within origin calls at bytes c r = record {
   possible = r.was_left.possible;
-  image = record { differs = DiffersIn-more _ _ _ _ _ r.was_left.image.differs r.stepped.image.differs; bytes = r.stepped.image.bytes };
-  output = subst (λ o. IsGrown [] (said_after begun.output calls) o) (sym r.stepped.output) r.was_left.output;
+  image = record { differs = DiffersIn-more _ _ _ _ _ r.was_left.image.differs r.done.image.differs; bytes = r.done.image.bytes };
+  output = subst (λ o. IsGrown [] (said_after origin.output calls) o) (sym r.done.output) r.was_left.output;
 }
 
 pub write_goes : (h : MemHostState) (at : ℕ) (bytes : List ℕ) → are_bytes bytes ≡ true → at ≤ length (file_of h) → Goes (Tears at (length bytes)) (shown_of h) (shown_of (host_after (Wrote at bytes) h))
 write_goes h at bytes b l =
-    let begun = h.begun in
+    let origin = h.origin in
     let calls = h.calls in
-    let after = λ (c : Left) (left : LeftAfter begun (Wrote at bytes ∷ calls) None c).
-    write_left begun calls at bytes c (possible_parts begun.image calls at bytes left.possible).0 l left.image left.output in
-    let within = λ (c : Left) (left : LeftAfter begun calls (Some (Wrote at bytes)) c).
-    write_left begun calls at bytes c left.possible l left.image left.output in
+    let after = λ (c : Left) (left : LeftAfter origin (Wrote at bytes ∷ calls) None c).
+    write_left origin calls at bytes c (possible_parts origin.image calls at bytes left.possible).0 l left.image left.output in
+    let within = λ (c : Left) (left : LeftAfter origin calls (Some (Wrote at bytes)) c).
+    write_left origin calls at bytes c left.possible l left.image left.output in
     record {
-      tells = possible_after begun.image calls at bytes b l;
+      tells = possible_after origin.image calls at bytes b l;
       later = omega arith;
       by_one = omega arith;
       after = after;
       during = λ t c le left. ⊎_elim (λ now. inr (after c now.1)) (λ before. ⊎_elim (λ here. inr (within c here.1)) (λ earlier. inl earlier) before) left;
       keeps = λ t c le left. inr (inr left);
-      reaches = λ told moved c r. inr (inl (omega arith, write_within begun calls at bytes c r));
+      reaches = λ told moved c r. inr (inl (omega arith, write_within origin calls at bytes c r));
       still = λ told same. absurd (omega arith);
     }
 
 -- a sync
 
-pub sync_within : (begun : Left) (calls : List Call) (c : Left) → LeftAfter begun calls (Some Synced) c → LeftAfter begun calls None c
-sync_within begun calls c left = record { possible = left.possible; image = left.image; output = left.output }
+pub sync_within : (origin : Left) (calls : List Call) (c : Left) → LeftAfter origin calls (Some Synced) c → LeftAfter origin calls None c
+sync_within origin calls c left = record { possible = left.possible; image = left.image; output = left.output }
 
-pub within_sync : (begun : Left) (calls : List Call) (c : Left) → LeftAfter begun calls None c → LeftAfter begun calls (Some Synced) c
-within_sync begun calls c left = record { possible = left.possible; image = left.image; output = left.output }
+pub within_sync : (origin : Left) (calls : List Call) (c : Left) → LeftAfter origin calls None c → LeftAfter origin calls (Some Synced) c
+within_sync origin calls c left = record { possible = left.possible; image = left.image; output = left.output }
 
-pub sync_left : (begun : Left) (calls : List Call) (c : Left) → LeftAfter begun (Synced ∷ calls) None c → (c.image ≡ file_after begun.image calls) × LeftAfter begun calls None c
-sync_left begun calls c left =
+pub sync_left : (origin : Left) (calls : List Call) (c : Left) → LeftAfter origin (Synced ∷ calls) None c → (c.image ≡ file_after origin.image calls) × LeftAfter origin calls None c
+sync_left origin calls c left =
     let same = untouched _ _ left.image.differs in (
       same,
       record {
         possible = left.possible;
-        image = record { differs = subst (λ f. DiffersIn (unsynced calls) (synced_after begun.image calls) f) (sym same) (file_differs begun.image calls left.possible); bytes = left.image.bytes };
+        image = record { differs = subst (λ f. DiffersIn (unsynced calls) (synced_after origin.image calls) f) (sym same) (file_differs origin.image calls left.possible); bytes = left.image.bytes };
         output = left.output;
       },
     )
 
 pub sync_goes : (h : MemHostState) → Goes Stays (shown_of h) (shown_of (host_after Synced h))
 sync_goes h =
-    let begun = h.begun in
+    let origin = h.origin in
     let calls = h.calls in
-    let stays : (c : Left) → LeftAfter begun calls None c → Reached Stays (LeftAfter begun calls None) c = λ c left. record { start = c; was_left = left; stepped = refl } in
+    let stays : (c : Left) → LeftAfter origin calls None c → Reached Stays (LeftAfter origin calls None) c = λ c left. record { start = c; was_left = left; done = refl } in
     record {
       tells = refl;
       later = omega arith;
       by_one = omega arith;
-      after = λ c left. stays c (sync_left begun calls c left).1;
-      during = λ t c le left. ⊎_elim (λ now. inr (stays c (sync_left begun calls c now.1).1)) (λ before. ⊎_elim (λ here. inr (stays c (sync_within begun calls c here.1))) (λ earlier. inl earlier) before) left;
+      after = λ c left. stays c (sync_left origin calls c left).1;
+      during = λ t c le left. ⊎_elim (λ now. inr (stays c (sync_left origin calls c now.1).1)) (λ before. ⊎_elim (λ here. inr (stays c (sync_within origin calls c here.1))) (λ earlier. inl earlier) before) left;
       keeps = λ t c le left. inr (inr left);
-      reaches = λ told moved c r. inr (inl (omega arith, within_sync begun calls c (subst (λ d. LeftAfter begun calls None d) (sym r.stepped) r.was_left)));
+      reaches = λ told moved c r. inr (inl (omega arith, within_sync origin calls c (subst (λ d. LeftAfter origin calls None d) (sym r.done) r.was_left)));
       still = λ told same. absurd (omega arith);
     }
 
 -- a piece of output
 
-pub put_left : (begun : Left) (calls : List Call) (piece : List ℕ) (c : Left) → is_possible begun.image calls ≡ true → IsImage (unsynced calls) (synced_after begun.image calls) c.image → IsGrown piece (said_after begun.output calls) c.output
-    → Reached (Says piece) (LeftAfter begun calls None) c
-put_left begun calls piece c p image output = record {
-  start = record { image = c.image; output = said_after begun.output calls };
-  was_left = record { possible = p; image = image; output = grown_none (said_after begun.output calls) };
-  stepped = record { image = refl; output = output };
+pub put_left : (origin : Left) (calls : List Call) (piece : List ℕ) (c : Left) → is_possible origin.image calls ≡ true → IsImage (unsynced calls) (synced_after origin.image calls) c.image → IsGrown piece (said_after origin.output calls) c.output
+    → Reached (Says piece) (LeftAfter origin calls None) c
+put_left origin calls piece c p image output = record {
+  start = record { image = c.image; output = said_after origin.output calls };
+  was_left = record { possible = p; image = image; output = grown_none (said_after origin.output calls) };
+  done = record { image = refl; output = output };
 }
 
-pub put_within : (begun : Left) (calls : List Call) (piece : List ℕ) (c : Left) → Reached (Says piece) (LeftAfter begun calls None) c → LeftAfter begun calls (Some (Put piece)) c
-put_within begun calls piece c r = record {
+pub put_within : (origin : Left) (calls : List Call) (piece : List ℕ) (c : Left) → Reached (Says piece) (LeftAfter origin calls None) c → LeftAfter origin calls (Some (Put piece)) c
+put_within origin calls piece c r = record {
   possible = r.was_left.possible;
-  image = subst (λ i. IsImage (unsynced calls) (synced_after begun.image calls) i) (sym r.stepped.image) r.was_left.image;
-  output = subst (λ o. IsGrown piece o c.output) (grown_by_none _ _ r.was_left.output) r.stepped.output;
+  image = subst (λ i. IsImage (unsynced calls) (synced_after origin.image calls) i) (sym r.done.image) r.was_left.image;
+  output = subst (λ o. IsGrown piece o c.output) (grown_by_none _ _ r.was_left.output) r.done.output;
 }
 
 pub put_goes : (h : MemHostState) (piece : List ℕ) → Goes (Says piece) (shown_of h) (shown_of (host_after (Put piece) h))
 put_goes h piece =
-    let begun = h.begun in
+    let origin = h.origin in
     let calls = h.calls in
-    let after = λ (c : Left) (left : LeftAfter begun (Put piece ∷ calls) None c).
-    put_left begun calls piece c left.possible left.image (subst (λ o. IsGrown piece (said_after begun.output calls) o) (sym (grown_by_none _ _ left.output)) (grown_whole piece (said_after begun.output calls))) in
-    let within = λ (c : Left) (left : LeftAfter begun calls (Some (Put piece)) c). put_left begun calls piece c left.possible left.image left.output in
+    let after = λ (c : Left) (left : LeftAfter origin (Put piece ∷ calls) None c).
+    put_left origin calls piece c left.possible left.image (subst (λ o. IsGrown piece (said_after origin.output calls) o) (sym (grown_by_none _ _ left.output)) (grown_whole piece (said_after origin.output calls))) in
+    let within = λ (c : Left) (left : LeftAfter origin calls (Some (Put piece)) c). put_left origin calls piece c left.possible left.image left.output in
     record {
       tells = refl;
       later = omega arith;
@@ -228,7 +232,7 @@ put_goes h piece =
       after = after;
       during = λ t c le left. ⊎_elim (λ now. inr (after c now.1)) (λ before. ⊎_elim (λ here. inr (within c here.1)) (λ earlier. inl earlier) before) left;
       keeps = λ t c le left. inr (inr left);
-      reaches = λ told moved c r. inr (inl (omega arith, put_within begun calls piece c r));
+      reaches = λ told moved c r. inr (inl (omega arith, put_within origin calls piece c r));
       still = λ told same. absurd (omega arith);
     }
 
@@ -242,12 +246,12 @@ says_nothing piece c = record { image = refl; output = record { count = 0; fits 
 
 -- where all rests, a call went on that had no effect
 
-pub rests_still : (step : Left → Left → Type 0) (old new : Shown) → Rests old new → ((c : Left) → old.may_leave c → step c c) → Goes step old new
-rests_still step old new rests same = record {
+pub rests_still : (effect : Left → Left → Type 0) (old new : Shown) → Rests old new → ((c : Left) → old.may_leave c → effect c c) → Goes effect old new
+rests_still effect old new rests same = record {
   tells = rests.tells;
   later = omega (arith, rests.clock);
   by_one = omega (arith, rests.clock);
-  after = λ c left. record { start = c; was_left = (rests.leaves c).0 left; stepped = same c ((rests.leaves c).0 left) };
+  after = λ c left. record { start = c; was_left = (rests.leaves c).0 left; done = same c ((rests.leaves c).0 left) };
   during = λ t c le left. inl ((rests.since t c).0 left);
   keeps = λ t c le left. (rests.since t c).1 left;
   reaches = λ told moved. absurd (omega (arith, rests.clock));

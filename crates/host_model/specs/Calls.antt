@@ -60,13 +60,13 @@ piece_of None = []
 
 -- What a stop leaves after these calls, while another one may go on: outside the ranges written since the last sync,
 -- with that of the one that goes on, the bytes as of that sync. It is told where calls can have made this.
-pub record LeftAfter (begun : Left) (calls : List Call) (running : Option Call) (c : Left) : Type 0 where
-  pub possible : IsTrue (is_possible begun.image calls)
-  pub image : IsImage (ranges_of running ++ unsynced calls) (synced_after begun.image calls) c.image
-  pub output : IsGrown (piece_of running) (said_after begun.output calls) c.output
+pub record LeftAfter (origin : Left) (calls : List Call) (running : Option Call) (c : Left) : Type 0 where
+  pub possible : IsTrue (is_possible origin.image calls)
+  pub image : IsImage (ranges_of running ++ unsynced calls) (synced_after origin.image calls) c.image
+  pub output : IsGrown (piece_of running) (said_after origin.output calls) c.output
 
 -- what a stop may have left since so many calls: after the last one, within it, or before it
 abbrev pub LeftSince : Left → List Call → ℕ → Left → Type 0
-LeftSince begun [] t c = (t ≤ 0) × LeftAfter begun [] None c
-LeftSince begun (call ∷ calls) t c =
-    ((t ≤ length calls + 1) × LeftAfter begun (call ∷ calls) None c) ⊎ (((t ≤ length calls) × LeftAfter begun calls (Some call) c) ⊎ LeftSince begun calls t c)
+LeftSince origin [] t c = (t ≤ 0) × LeftAfter origin [] None c
+LeftSince origin (call ∷ calls) t c =
+    ((t ≤ length calls + 1) × LeftAfter origin (call ∷ calls) None c) ⊎ (((t ≤ length calls) × LeftAfter origin calls (Some call) c) ⊎ LeftSince origin calls t c)

@@ -1,6 +1,6 @@
 -- A host that stops serving after some calls, as contracts see it. All of it is this project's own.
-use Rattle.std.specs.Prelude.{ℕ, ◌+◌, ◌-◌, ◌^◌, ◌==◌, min, if◌then◌else◌}
-use Rattle.host_model.specs.Counts.{raised}
+use Rattle.std.specs.Prelude.{ℕ, ◌+◌, ◌-◌, ◌==◌, if◌then◌else◌}
+use Rattle.host_model.specs.Counts.{counted, count_fits, raised}
 use Rattle.host_model.specs.Host.{Shown, IsCoherent}
 use Rattle.host_model.specs.MemHost as mem
 use Rattle.host_model.specs.CallLaws as laws
@@ -19,8 +19,8 @@ fresh_fuse h calls = record { inner = h; calls_left = calls; disk_blown = 0; out
 -- what it shows: what the inner host shows, with its own failures counted too
 abbrev pub shown_of : FuseHostState → Shown
 shown_of f = record (mem.shown_of f.inner) {
-  disk_faults = min (f.inner.disk_faults + f.disk_blown) (2 ^ 64 - 1);
-  out_faults = min (f.inner.out_faults + f.out_blown) (2 ^ 64 - 1);
+  disk_faults = counted (f.inner.disk_faults + f.disk_blown);
+  out_faults = counted (f.inner.out_faults + f.out_blown);
 }
 
 -- the host after a call that it passed on, which left the inner host so
@@ -44,4 +44,7 @@ is_coherent f = let i = laws.is_coherent f.inner in record {
   only_now = i.only_now;
   earlier = i.earlier;
   bytes = i.bytes;
+  reads_fit = i.reads_fit;
+  disk_faults_fit = count_fits (f.inner.disk_faults + f.disk_blown);
+  out_faults_fit = count_fits (f.inner.out_faults + f.out_blown);
 }

@@ -9,9 +9,9 @@ use Rattle.host_model.specs.Host.{Left, Shown, IsCoherent, Settled, Reached, Tea
 pub leaves_start : (h : Shown) (P : Left → Type 0) → LeavesOnly h h P
 leaves_start h P = record { tells = refl; later = omega arith; during = λ t c le left. inl left }
 
--- One call leaves only P, where each pair that its step leads to has P.
-pub leaves_by_call : (step : Left → Left → Type 0) (old new : Shown) (P : Left → Type 0) → Goes step old new → ((c : Left) → Reached step old.may_leave c → P c) → LeavesOnly old new P
-leaves_by_call step old new P goes has = record {
+-- One call leaves only P, where each pair that its effect leads to has P.
+pub leaves_by_call : (effect : Left → Left → Type 0) (old new : Shown) (P : Left → Type 0) → Goes effect old new → ((c : Left) → Reached effect old.may_leave c → P c) → LeavesOnly old new P
+leaves_by_call effect old new P goes has = record {
   tells = goes.tells;
   later = goes.later;
   during = λ t c le left. ⊎_elim (λ before. inl before) (λ r. inr (has c r)) (goes.during t c le left);
@@ -39,23 +39,23 @@ leaves_each old new P coherent here run c left = ⊎_elim (λ before. here c (co
 
 -- While a sync runs, and after it, a stop leaves only what it left before.
 pub stays_was_left : (before : Left → Type 0) (c : Left) → Reached Stays before c → before c
-stays_was_left before c r = subst before (sym r.stepped) r.was_left
+stays_was_left before c r = subst before (sym r.done) r.was_left
 
 -- Writes to some ranges, and then to others, are writes to all of them.
 pub tears_then : (qs rs : List Range) (before : Left → Type 0) (c : Left) → Reached (TearsIn qs) (Reached (TearsIn rs) before) c → Reached (TearsIn (qs ++ rs)) before c
 tears_then qs rs before c r = let first = r.was_left in record {
   start = first.start;
   was_left = first.was_left;
-  stepped = record {
-    image = record { differs = DiffersIn-then qs rs _ _ _ first.stepped.image.differs r.stepped.image.differs; bytes = r.stepped.image.bytes };
-    output = r.stepped.output ∙ first.stepped.output;
+  done = record {
+    image = record { differs = DiffersIn-then qs rs _ _ _ first.done.image.differs r.done.image.differs; bytes = r.done.image.bytes };
+    output = r.done.output ∙ first.done.output;
   };
 }
 
 -- From a settled host, writes leave its file torn in their ranges.
 pub torn_from_settled : (ranges : List Range) (h : Shown) (f : List ℕ) (c : Left) → Settled h → h.file ≡ Some f → Reached (TearsIn ranges) h.may_leave c → DiffersIn ranges f c.image
-torn_from_settled ranges h f c settled told r = subst (λ i. DiffersIn ranges i c.image) (settled r.start r.was_left f told) r.stepped.image.differs
+torn_from_settled ranges h f c settled told r = subst (λ i. DiffersIn ranges i c.image) (settled r.start r.was_left f told) r.done.image.differs
 
 -- Writes leave the output that was said.
 pub output_from_tears : (ranges : List Range) (h : Shown) (o : List ℕ) (c : Left) → IsCoherent h → h.said ≡ Some o → Reached (TearsIn ranges) h.may_leave c → c.output ≡ o
-output_from_tears ranges h o c coherent told r = r.stepped.output ∙ coherent.outputs r.start r.was_left o told
+output_from_tears ranges h o c coherent told r = r.done.output ∙ coherent.outputs r.start r.was_left o told

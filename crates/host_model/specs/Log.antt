@@ -9,7 +9,7 @@ use Rattle.host_model.specs.declared.log.Kept.TheVariants.{Write, Sync, Piece}
 
 -- the file and the output that it began with, and the calls since that moved the clock, newest first
 pub record LogState : Type 0 where
-  pub begun : Left
+  pub origin : Left
   pub calls : List Call
 
 abbrev pub with_call : Call → LogState → LogState

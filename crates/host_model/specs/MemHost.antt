@@ -1,12 +1,12 @@
 -- A host in memory, as contracts see it. All of it is this project's own.
 use Rattle.std.specs.Prelude.{ℕ, Bool, false, not, ◌||◌, List, [], ◌∷◌, length, Option, Some, None}
-use Rattle.host_model.specs.Counts.{following, is_listed, raised}
+use Rattle.host_model.specs.Counts.{counted, following, is_listed, raised}
 use Rattle.host_model.specs.Host.{Left, Shown}
 use Rattle.host_model.specs.Calls.{Call, file_after, said_after, is_possible, LeftAfter, LeftSince}
 
 pub record MemHostState : Type 0 where
   -- the file and the output that it began with
-  pub begun : Left
+  pub origin : Left
   -- the calls since that moved the clock, newest first
   pub calls : List Call
   pub reads : ℕ
@@ -22,7 +22,7 @@ pub record MemHostState : Type 0 where
 -- a settled host with this file and this output
 abbrev pub fresh_host : Left → List ℕ → MemHostState
 fresh_host pair listed = record {
-  begun = pair;
+  origin = pair;
   calls = [];
   reads = 0;
   disk_faults = 0;
@@ -33,10 +33,10 @@ fresh_host pair listed = record {
 }
 
 abbrev pub file_of : MemHostState → List ℕ
-file_of h = file_after h.begun.image h.calls
+file_of h = file_after h.origin.image h.calls
 
 abbrev pub said_of : MemHostState → List ℕ
-said_of h = said_after h.begun.output h.calls
+said_of h = said_after h.origin.output h.calls
 
 abbrev pub pair_of : MemHostState → Left
 pair_of h = record { image = file_of h; output = said_of h }
@@ -45,13 +45,13 @@ abbrev pub shown_of : MemHostState → Shown
 shown_of h = record {
   file = Some (file_of h);
   said = Some (said_of h);
-  tells_stops = is_possible h.begun.image h.calls;
-  may_leave = LeftAfter h.begun h.calls None;
-  left_since = LeftSince h.begun h.calls;
+  tells_stops = is_possible h.origin.image h.calls;
+  may_leave = LeftAfter h.origin h.calls None;
+  left_since = LeftSince h.origin h.calls;
   clock = length h.calls;
-  reads = h.reads;
-  disk_faults = h.disk_faults;
-  out_faults = h.out_faults;
+  reads = counted h.reads;
+  disk_faults = counted h.disk_faults;
+  out_faults = counted h.out_faults;
 }
 
 -- the host after a call that does not move the clock

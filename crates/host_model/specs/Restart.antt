@@ -60,4 +60,4 @@ output_at (Fill byte) first m = said_after first (onto m.running m.made)
 output_at (Mix number) first m = said_after first (onto m.running m.made)
 
 abbrev pub pair_at : Pick → Left → Moment → Left
-pair_at pick begun m = record { image = image_at pick begun.image m; output = output_at pick begun.output m }
+pair_at pick origin m = record { image = image_at pick origin.image m; output = output_at pick origin.output m }

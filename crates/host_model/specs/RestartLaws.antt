@@ -18,7 +18,7 @@ use Rattle.host_model.specs.declared.restart.Pick.TheVariants.{Old, New, Fill, M
 
 -- what a stop leaves within the call that follows the first n, or after all of them
 abbrev pub LeftAt : ℕ → MemHostState → Left → Type 0
-LeftAt n h c = let m = moment n h.calls in LeftAfter h.begun m.made m.running c
+LeftAt n h c = let m = moment n h.calls in LeftAfter h.origin m.made m.running c
 
 length_picked-bounds : (pick : Pick) (least greatest : ℕ) → least ≤ greatest → (least ≤ length_picked pick least greatest) × (length_picked pick least greatest ≤ greatest)
 length_picked-bounds Old least greatest l = (omega arith, l)
@@ -88,51 +88,51 @@ output_put New first made piece = grown_whole piece (said_after first made)
 output_put (Fill byte) first made piece = grown_whole piece (said_after first made)
 output_put (Mix number) first made piece = grown_whole piece (said_after first made)
 
-running_left : (pick : Pick) (begun : Left) (made : List Call) (running : Option Call) → are_bytes (image_at pick begun.image (record { made = made; running = running })) ≡ true → is_possible begun.image (onto running made) ≡ true → LeftAfter begun made running (pair_at pick begun (record { made = made; running = running }))
-running_left pick begun made None p possible = record {
+running_left : (pick : Pick) (origin : Left) (made : List Call) (running : Option Call) → are_bytes (image_at pick origin.image (record { made = made; running = running })) ≡ true → is_possible origin.image (onto running made) ≡ true → LeftAfter origin made running (pair_at pick origin (record { made = made; running = running }))
+running_left pick origin made None p possible = record {
   possible = possible;
-  image = picked_image-left pick _ _ _ p (no_gap begun.image made possible);
-  output = output_still pick begun.output made None refl;
+  image = picked_image-left pick _ _ _ p (no_gap origin.image made possible);
+  output = output_still pick origin.output made None refl;
 }
-running_left pick begun made (Some (Wrote at bytes)) p possible = record {
-  possible = (possible_parts begun.image made at bytes possible).0;
-  image = picked_image-left pick _ _ _ p (no_gap begun.image (Wrote at bytes ∷ made) possible);
-  output = output_still pick begun.output made (Some (Wrote at bytes)) refl;
+running_left pick origin made (Some (Wrote at bytes)) p possible = record {
+  possible = (possible_parts origin.image made at bytes possible).0;
+  image = picked_image-left pick _ _ _ p (no_gap origin.image (Wrote at bytes ∷ made) possible);
+  output = output_still pick origin.output made (Some (Wrote at bytes)) refl;
 }
-running_left pick begun made (Some Synced) p possible = record {
+running_left pick origin made (Some Synced) p possible = record {
   possible = possible;
-  image = picked_image-left pick _ _ _ p (no_gap begun.image made possible);
-  output = output_still pick begun.output made (Some Synced) refl;
+  image = picked_image-left pick _ _ _ p (no_gap origin.image made possible);
+  output = output_still pick origin.output made (Some Synced) refl;
 }
-running_left pick begun made (Some (Put piece)) p possible = record {
+running_left pick origin made (Some (Put piece)) p possible = record {
   possible = possible;
-  image = picked_image-left pick _ _ _ p (no_gap begun.image made possible);
-  output = output_put pick begun.output made piece;
+  image = picked_image-left pick _ _ _ p (no_gap origin.image made possible);
+  output = output_put pick origin.output made piece;
 }
 
 -- the image and the output of a moment are left by a stop in it
-pub pair_at-left : (pick : Pick) (begun : Left) (m : Moment) → are_bytes (image_at pick begun.image m) ≡ true → is_possible begun.image (onto m.running m.made) ≡ true → LeftAfter begun m.made m.running (pair_at pick begun m)
-pair_at-left pick begun m p possible = running_left pick begun m.made m.running p possible
+pub pair_at-left : (pick : Pick) (origin : Left) (m : Moment) → are_bytes (image_at pick origin.image m) ≡ true → is_possible origin.image (onto m.running m.made) ≡ true → LeftAfter origin m.made m.running (pair_at pick origin m)
+pair_at-left pick origin m p possible = running_left pick origin m.made m.running p possible
 
 -- and so by a stop since it
-pub left_in_moment : (begun : Left) (n : ℕ) (calls : List Call) (c : Left) → n ≤ length calls → LeftAfter begun (moment n calls).made (moment n calls).running c → LeftSince begun calls n c
-left_in_moment begun n [] c l h = (l, h)
-left_in_moment begun n (call ∷ calls) c l h = ⊎_elim
-    (λ same. inr (inl (omega arith, subst (λ m. LeftAfter begun m.made m.running c) (moment-at n call calls same) h)))
+pub left_in_moment : (origin : Left) (n : ℕ) (calls : List Call) (c : Left) → n ≤ length calls → LeftAfter origin (moment n calls).made (moment n calls).running c → LeftSince origin calls n c
+left_in_moment origin n [] c l h = (l, h)
+left_in_moment origin n (call ∷ calls) c l h = ⊎_elim
+    (λ same. inr (inl (omega arith, subst (λ m. LeftAfter origin m.made m.running c) (moment-at n call calls same) h)))
     (λ apart. ⊎_elim
-    (λ before. inr (inr (left_in_moment begun n calls c (omega arith) (subst (λ m. LeftAfter begun m.made m.running c) (moment-before n call calls before) h))))
-    (λ after. inl (omega arith, subst (λ m. LeftAfter begun m.made m.running c) (moment-past n call calls after) h))
+    (λ before. inr (inr (left_in_moment origin n calls c (omega arith) (subst (λ m. LeftAfter origin m.made m.running c) (moment-before n call calls before) h))))
+    (λ after. inl (omega arith, subst (λ m. LeftAfter origin m.made m.running c) (moment-past n call calls after) h))
     apart)
     (cases_order n (length calls))
 
 -- a host that was restarted with that pair
 
-pub restarted_since : (n : ℕ) (h new : MemHostState) → n ≤ length h.calls → LeftAt n h (pair_of new) → LeftSince h.begun h.calls n (pair_of new)
-restarted_since n h new l left = left_in_moment h.begun n h.calls (pair_of new) l left
+pub restarted_since : (n : ℕ) (h new : MemHostState) → n ≤ length h.calls → LeftAt n h (pair_of new) → LeftSince h.origin h.calls n (pair_of new)
+restarted_since n h new l left = left_in_moment h.origin n h.calls (pair_of new) l left
 
-pub restarted_at : (pick : Pick) (n : ℕ) (h new : MemHostState) → are_bytes (image_at pick h.begun.image (moment n h.calls)) ≡ true → is_possible h.begun.image h.calls ≡ true → new ≡ fresh_host (pair_at pick h.begun (moment n h.calls)) [] → LeftAt n h (pair_of new)
+pub restarted_at : (pick : Pick) (n : ℕ) (h new : MemHostState) → are_bytes (image_at pick h.origin.image (moment n h.calls)) ≡ true → is_possible h.origin.image h.calls ≡ true → new ≡ fresh_host (pair_at pick h.origin (moment n h.calls)) [] → LeftAt n h (pair_of new)
 restarted_at pick n h new p possible e =
-    subst (λ r. LeftAt n h (pair_of r)) (sym e) (pair_at-left pick h.begun (moment n h.calls) p (moment-possible h.begun.image n h.calls possible))
+    subst (λ r. LeftAt n h (pair_of r)) (sym e) (pair_at-left pick h.origin (moment n h.calls) p (moment-possible h.origin.image n h.calls possible))
 
 pub restarted_settled : (h : MemHostState) → h.calls ≡ [] → Settled (shown_of h)
 restarted_settled h e = subst (λ cs. Settled (shown_of (record h { calls = cs }))) (sym e) (λ c left f is. untouched _ _ left.image.differs ∙ same_Some _ _ is)

@@ -2,6 +2,7 @@
 use Rattle.std.specs.Prelude.{ℕ, false, List, Option}
 use Rattle.std.proofs.Common.{arith, refl}
 use Rattle.std.proofs.lemmas.Bool.{false≢true}
+use Rattle.host_model.specs.Counts.{counted, count_fits}
 use Rattle.host_model.specs.Host.{Left, Shown, IsCoherent, Goes}
 
 -- what it shows: its file and its output where it tells them, and its counts of faults
@@ -14,8 +15,8 @@ without_stops file_read output disk out = record {
   left_since = λ t c. ⊥;
   clock = 0;
   reads = 0;
-  disk_faults = disk;
-  out_faults = out;
+  disk_faults = counted disk;
+  out_faults = counted out;
 }
 
 pub untold_coherent : (f o : Option (List ℕ)) (disk out : ℕ) → IsCoherent (without_stops f o disk out)
@@ -26,11 +27,14 @@ untold_coherent f o disk out = record {
   only_now = λ c left. left;
   earlier = λ s t c le left. left;
   bytes = λ t c left. absurd left;
+  reads_fit = count_fits 0;
+  disk_faults_fit = count_fits disk;
+  out_faults_fit = count_fits out;
 }
 
 -- each of its calls goes on as it should, since nothing is told
-pub untold_goes : (step : Left → Left → Type 0) (f o g p : Option (List ℕ)) (disk out disks outs : ℕ) → Goes step (without_stops f o disk out) (without_stops g p disks outs)
-untold_goes step f o g p disk out disks outs = record {
+pub untold_goes : (effect : Left → Left → Type 0) (f o g p : Option (List ℕ)) (disk out disks outs : ℕ) → Goes effect (without_stops f o disk out) (without_stops g p disks outs)
+untold_goes effect f o g p disk out disks outs = record {
   tells = refl;
   later = omega arith;
   by_one = omega arith;

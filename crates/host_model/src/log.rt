@@ -37,7 +37,7 @@ impl Model for Log {
     ghost Value = { LogState };
 
     ghost view = { λ l. record {
-      begun = record { image = l.first.items; output = l.first_said.items };
+      origin = record { image = l.first.items; output = l.first_said.items };
       calls = newest_first l.calls.items;
     } };
 
@@ -47,7 +47,7 @@ impl Model for Log {
 impl Log {
     // Nothing was called yet. `Memory`: no room for two copies of the file.
     pub(crate) fn new(alloc: Global, file: &[u8], said: &[u8]) -> Result<Log, Memory>
-        ensures { IfOk result (λ l. l ≡ record { begun = record { image = file.now; output = said.now }; calls = [] }) }
+        ensures { IfOk result (λ l. l ≡ record { origin = record { image = file.now; output = said.now }; calls = [] }) }
     {
         Ok(Log {
             alloc,
@@ -60,13 +60,13 @@ impl Log {
     }
 
     pub(crate) fn file(&self) -> &[u8]
-        ensures { result.now ≡ file_after self.now.begun.image self.now.calls }
+        ensures { result.now ≡ file_after self.now.origin.image self.now.calls }
     {
         &self.file
     }
 
     pub(crate) fn said(&self) -> &[u8]
-        ensures { result.now ≡ said_after self.now.begun.output self.now.calls }
+        ensures { result.now ≡ said_after self.now.origin.output self.now.calls }
     {
         &self.said
     }
@@ -79,7 +79,7 @@ impl Log {
 
     // Writes and keeps the write, or has no effect.
     pub(crate) fn write(&mut self, at: usize, bytes: &[u8]) -> Result<(), Memory>
-        requires { at ≤ length (file_after self.old.begun.image self.old.calls) }
+        requires { at ≤ length (file_after self.old.origin.image self.old.calls) }
         ensures ok { OnOk result (self.new ≡ with_call (Wrote at bytes.now) self.old) }
         ensures err { OnErr result (self.new ≡ self.old) }
     {
@@ -118,10 +118,10 @@ impl Log {
     pub(crate) fn restart(&self, alloc: Global, at: usize, pick: Pick) -> Result<Log, Memory>
         requires { at ≤ length self.now.calls }
         ensures ok { IfOk result (λ l. l ≡ record {
-          begun = pair_at pick self.now.begun (moment at self.now.calls);
+          origin = pair_at pick self.now.origin (moment at self.now.calls);
           calls = [];
         }) }
-        ensures possible { IsTrue (is_possible self.now.begun.image self.now.calls) }
+        ensures possible { IsTrue (is_possible self.now.origin.image self.now.calls) }
     {
         let image = image_after(alloc, &self.first, &self.calls, at, pick)?;
         let said = output_after(alloc, &self.first_said, &self.calls, at, pick)?;

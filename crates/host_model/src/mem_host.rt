@@ -32,7 +32,7 @@ impl Model for MemHost {
     ghost Value = { MemHostState };
 
     ghost view = { λ h. record {
-      begun = h.log.begun;
+      origin = h.log.origin;
       calls = h.log.calls;
       reads = h.reads;
       disk_faults = h.disk_faults;
@@ -88,7 +88,7 @@ impl MemHost {
     pub fn restart(&self, alloc: Global, at: u64, pick: Pick) -> Result<MemHost, Memory>
         requires { at ≤ length self.now.calls }
         ensures picked { IfOk result
-            (λ h. h ≡ fresh_host (pair_at pick self.now.begun (moment at self.now.calls)) []) }
+            (λ h. h ≡ fresh_host (pair_at pick self.now.origin (moment at self.now.calls)) []) }
         ensures of_that_moment { IfOk result (λ h. LeftAt at self.now (pair_of h)) }
         ensures since { IfOk result (λ h. (shown_of self.now).left_since at (pair_of h)) }
         ensures settled { IfOk result (λ h. Settled (shown_of h)) }

@@ -1,6 +1,6 @@
 // A source in memory.
 ghost use Rattle.std.specs.Prelude.{◌≡◌, ◌↔◌, ◌<◌, ◌≤◌, [], length, take, drop, min, option_map, IfSome, IfOk, OnOk, OnErr, IsErr, IsTrue};
-ghost use Rattle.host_model.specs.Counts.{Rose, is_listed};
+ghost use Rattle.host_model.specs.Counts.{counted, count_fits, Rose, is_listed};
 ghost use Rattle.host_model.specs.Source.{after_read};
 ghost use Rattle.host_model.specs.MemSource.{MemSourceState, fresh_source, told_of, source_after_read, source_after_fault};
 
@@ -60,7 +60,9 @@ impl MemSource {
 impl Source for MemSource {
     ghost told = { told_of };
 
-    ghost faults = { λ s. s.faults };
+    ghost faults = { λ s. counted s.faults };
+
+    ghost faults_fit = { λ s. count_fits s.faults };
 
     /// Gives as many bytes as the buffer, `most` and what is left allow, and fails exactly at the listed reads.
     fn read(&mut self, buf: &mut [u8]) -> Result<usize, SourceFailed>

@@ -1,5 +1,5 @@
 // What bytes are read from.
-ghost use Rattle.std.specs.Prelude.{◌≡◌, ◌↔◌, ◌<◌, ◌≤◌, ℕ, [], length, take, Option, option_map, IfSome, IfOk, OnOk, OnErr};
+ghost use Rattle.std.specs.Prelude.{◌≡◌, ◌↔◌, ◌<◌, ◌≤◌, ◌^◌, ℕ, [], length, take, Option, option_map, IfSome, IfOk, OnOk, OnErr};
 ghost use Rattle.host_model.specs.Counts.{Rose};
 ghost use Rattle.host_model.specs.Source.{Stream, after_read};
 
@@ -33,4 +33,7 @@ pub trait Source {
         ensures untaken { OnErr result (told self.new ≡ told self.old) }
         ensures cause { OnErr result (Rose (faults self.old) (faults self.new)) }
         ensures never_falls { faults self.old ≤ faults self.new };
+
+    /// The count is a number of 64 bits.
+    ghost faults_fit: { (s : Self) → faults s < 2 ^ 64 };
 }

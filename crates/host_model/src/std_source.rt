@@ -1,7 +1,7 @@
 // Standard input.
 ghost use Rattle.std.specs.Prelude.{◌≡◌, ◌<◌, ◌≤◌, length, take, None, IfOk, OnOk, OnErr};
 ghost use Rattle.std.specs.Io.KnownBytes.{Consumes, IsAtEnd, Keeps};
-ghost use Rattle.host_model.specs.Counts.{Rose, raised};
+ghost use Rattle.host_model.specs.Counts.{counted, count_fits, Rose, raised};
 ghost use Rattle.host_model.specs.StdSource.{StdSourceState};
 
 use crate::counts::with_fault;
@@ -42,7 +42,9 @@ impl<R: Input + Clone + Drop> StdSource<R> {
 impl<R: Input> Source for StdSource<R> {
     ghost told = { λ _. None };
 
-    ghost faults = { λ s. s.faults };
+    ghost faults = { λ s. counted s.faults };
+
+    ghost faults_fit = { λ s. count_fits s.faults };
 
     /// One read, made again where a signal interrupts it. Any other error is a fault.
     fn read(&mut self, buf: &mut [u8]) -> Result<usize, SourceFailed>

@@ -12,11 +12,11 @@ pub returns-clause-of_that_moment : goal.returns-clause-of_that_moment
 returns-clause-of_that_moment c =
     let new : MemHostState = the_view (record { log = c.in_ok-restart.field-0; reads = 0; disk_faults = 0; out_faults = 0; fail = c.new.result; next_call = Some 0; starved = false }) in
     let h : MemHostState = c.args.self.now in
-    let bytes : are_bytes c.in_ok-restart.field-0.begun.image ≡ true = search rules in
-    let begun : c.in_ok-restart.field-0.begun ≡ pair_at c.args.pick h.begun (moment c.args.at h.calls) = search rules in
-    let picked : new ≡ fresh_host (pair_at c.args.pick h.begun (moment c.args.at h.calls)) [] = search rules in
-    let possible : is_possible h.begun.image h.calls ≡ true = search rules in
-    restarted_at c.args.pick c.args.at h new (sym (ap (λ p. are_bytes p.image) begun) ∙ bytes) possible picked
+    let bytes : are_bytes c.in_ok-restart.field-0.origin.image ≡ true = search rules in
+    let origin : c.in_ok-restart.field-0.origin ≡ pair_at c.args.pick h.origin (moment c.args.at h.calls) = search rules in
+    let picked : new ≡ fresh_host (pair_at c.args.pick h.origin (moment c.args.at h.calls)) [] = search rules in
+    let possible : is_possible h.origin.image h.calls ≡ true = search rules in
+    restarted_at c.args.pick c.args.at h new (sym (ap (λ p. are_bytes p.image) origin) ∙ bytes) possible picked
 
 pub returns-clause-since : goal.returns-clause-since
 returns-clause-since c =
