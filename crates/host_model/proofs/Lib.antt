@@ -1,7 +1,8 @@
-pub mod Writes
+pub mod Appending
 pub mod Filling
 pub mod Goes
 pub mod Kept
 pub mod Moments
 pub mod Patches
 pub mod Again
+pub mod WritesMade

@@ -1,9 +1,9 @@
 -- What a run of calls leaves at a stop: how calls compose. All of it is this project's own.
-use Rattle.std.specs.Prelude.{◌≡◌, ◌++◌, ℕ, List, Some}
+use Rattle.std.specs.Prelude.{◌≡◌, ◌++◌, ◌⊎◌, ℕ, List, Some}
 use Rattle.std.proofs.Common.{arith, sym, ◌∙◌, refl, subst, inl, inr, ⊎_elim}
-use Rattle.host_model.specs.Disk.{Range, DiffersIn}
+use Rattle.host_model.specs.Disk.{Range, IsImage}
 use Rattle.host_model.specs.Torn.{DiffersIn-then}
-use Rattle.host_model.specs.Host.{Left, Shown, IsCoherent, Settled, Reached, TearsIn, Stays, Rests, Goes, LeavesOnly}
+use Rattle.host_model.specs.Host.{Left, Shown, IsCoherent, Settled, Reached, TearsIn, Stays, Says, Rests, Goes, LeavesOnly}
 
 -- Before its first call a run leaves nothing new.
 pub leaves_start : (h : Shown) (P : Left → Type 0) → LeavesOnly h h P
@@ -53,9 +53,26 @@ tears_then qs rs before c r = let first = r.was_left in record {
 }
 
 -- From a settled host, writes leave its file torn in their ranges.
-pub torn_from_settled : (ranges : List Range) (h : Shown) (f : List ℕ) (c : Left) → Settled h → h.file ≡ Some f → Reached (TearsIn ranges) h.may_leave c → DiffersIn ranges f c.image
-torn_from_settled ranges h f c settled told r = subst (λ i. DiffersIn ranges i c.image) (settled r.start r.was_left f told) r.done.image.differs
+pub torn_from_settled : (ranges : List Range) (h : Shown) (f : List ℕ) (c : Left) → Settled h → h.file ≡ Some f
+    → Reached (TearsIn ranges) h.may_leave c → IsImage ranges f c.image
+torn_from_settled ranges h f c settled told r = subst (λ i. IsImage ranges i c.image) (settled r.start r.was_left f told) r.done.image
 
 -- Writes leave the output that was said.
 pub output_from_tears : (ranges : List Range) (h : Shown) (o : List ℕ) (c : Left) → IsCoherent h → h.said ≡ Some o → Reached (TearsIn ranges) h.may_leave c → c.output ≡ o
 output_from_tears ranges h o c coherent told r = r.done.output ∙ coherent.outputs r.start r.was_left o told
+
+-- What a stop leaves after a run was left at its start, or has P.
+pub left_after : (old new : Shown) (P : Left → Type 0) → IsCoherent old → IsCoherent new → LeavesOnly old new P
+    → (c : Left) → new.may_leave c → old.may_leave c ⊎ P c
+left_after old new P before after run c left =
+    ⊎_elim (λ b. inl (before.only_now c b)) (λ p. inr p)
+    (run.during old.clock c (omega arith) (after.earlier old.clock new.clock c run.later (after.counts_now c left)))
+
+-- A call that only reads leaves a settled host settled, and so does a piece of output.
+pub settled_by_rest : (old new : Shown) → Settled old → Rests old new → Settled new
+settled_by_rest old new settled rests c left f told = settled c ((rests.leaves c).0 left) f (sym rests.file ∙ told)
+
+pub settled_by_put : (piece : List ℕ) (old new : Shown) → Settled old → Goes (Says piece) old new → new.file ≡ old.file → Settled new
+settled_by_put piece old new settled goes file c left f told =
+    let r = goes.after c left in
+    r.done.image ∙ settled r.start r.was_left f (sym file ∙ told)

@@ -15,4 +15,8 @@ pub mod FileHost
 pub mod FuseHost
 pub mod PerfectHost
 pub mod Leaves
+pub mod Tearing
+pub mod Images
+pub mod Writes
+pub mod WritesLaws
 pub mod StdSource

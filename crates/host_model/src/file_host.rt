@@ -129,7 +129,7 @@ impl<R: Files + Print> Host for FileHost<R> {
 }
 
 // Writes a piece, and on from where a write stops.
-#[tactic(auto, using(crate::proofs::Writes::kept))]
+#[tactic(auto, using(crate::proofs::Appending::kept))]
 pub(crate) fn write_piece<W: Write>(writer: &mut W, bytes: &[u8]) -> Result<(), OutFailed>
     ensures ok { OnOk result (Appends (W.contents writer.old) (W.contents writer.new) bytes.now) }
     ensures err { OnErr result (AppendsFront (W.contents writer.old) (W.contents writer.new) bytes.now) }

@@ -12,6 +12,7 @@
 mod counts;
 mod file_host;
 mod fuse_host;
+pub mod laws;
 mod log;
 mod mem_host;
 mod mem_source;
@@ -20,8 +21,8 @@ mod perfect_host;
 mod reading;
 mod real_file;
 mod restart;
+mod runs;
 mod std_source;
-mod steps;
 mod writing;
 
 pub use file_host::FileHost;
@@ -31,9 +32,9 @@ pub use mem_source::MemSource;
 pub use perfect_host::PerfectHost;
 pub use reading::{Source, SourceFailed};
 pub use restart::Pick;
+pub use runs::{Writes, write_all_and_sync, write_and_sync};
 pub use std::alloc::AllocError as Memory;
 pub use std_source::StdSource;
-pub use steps::write_and_sync;
 pub use writing::{DiskFailed, Host, OutFailed};
 
 #[cfg(test)]

@@ -2,7 +2,7 @@
 use Rattle.std.proofs.Common.{arith}
 use Rattle.std.proofs.lemmas.Grind.{common_steps}
 use Rattle.std.proofs.lemmas.List.{take_rest}
-use Rattle.host_model.proofs.Writes.{Appends-take_add}
+use Rattle.host_model.proofs.Appending.{Appends-take_add}
 use Rattle.host_model.proofs.file_host.write_piece.Goals as goal
 
 pub loop-preserved : goal.loop-preserved
