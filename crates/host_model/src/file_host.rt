@@ -4,7 +4,7 @@ ghost use Rattle.std.specs.Io.KnownBytes.{Appends};
 ghost use Rattle.host_model.specs.FileHost.{FileHostState, fresh_file_host, shown_of, is_coherent, file_host_after_disk_fault, file_host_after_fault, AppendsFront};
 
 use crate::counts::with_fault;
-use crate::real_file::{real_len, real_read, real_sync, real_write};
+use crate::real_file::{Opened, real_len, real_read, real_sync, real_write};
 use crate::{DiskFailed, Host, Memory, OutFailed};
 use std::alloc::Global;
 use std::io;
@@ -17,8 +17,8 @@ use std::rt::Files;
 pub struct FileHost<R: Files> {
     runtime: R,
     path: Option<String>,
-    // Open from the first call on that found it or made it.
-    file: Option<R::File>,
+    // Open from the first call on that found it or made it: for reading first, and for writing from the first write on.
+    file: Option<Opened<R::File>>,
     disk_faults: u64,
     out_faults: u64,
 }

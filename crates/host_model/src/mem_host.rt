@@ -48,6 +48,7 @@ impl MemHost {
     /// together from 0, fail. `Memory`: no room for copies of the two.
     pub fn new(alloc: Global, file: &[u8], fail: &[u64]) -> Result<MemHost, Memory>
         ensures made { IfOk result (λ h. h ≡ fresh_host (record { image = file.now; output = [] }) fail.now) }
+        ensures settled { IfOk result (λ h. Settled (shown_of h)) }
         ensures tells { IfOk result (λ h. IsTrue (shown_of h).tells_stops) }
     {
         Ok(MemHost {

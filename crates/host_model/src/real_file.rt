@@ -8,31 +8,77 @@ use std::fs::{OpenFile, OpenOptions};
 use std::io::{ErrorKind, Read, Seek, SeekFrom};
 use std::rt::Files;
 
-// Opens the file for reading and writing, unless it is open. A missing file is made where `make` is true, and else
-// stays closed, which is no failure.
-fn open<R: Files>(
+// A file that is open: for reading, and from the first write on for writing too.
+#[derive(Drop)]
+pub(crate) struct Opened<F> {
+    file: F,
+    is_writable: bool,
+}
+
+// Opens the file for reading, unless it is open. A missing file stays closed, which is no failure; a folder is one.
+fn open_to_read<R: Files>(
     runtime: &R,
     path: &Option<String>,
-    file: &mut Option<R::File>,
-    make: bool,
+    opened: &mut Option<Opened<R::File>>,
 ) -> Result<(), DiskFailed>
     ensures { path.now ≡ None → IsErr result }
 {
     let Some(place) = path else {
         return Err(DiskFailed);
     };
-    if file.is_some() {
+    if opened.is_some() {
         return Ok(());
     }
     let mut how = OpenOptions::new();
-    how.read(true).write(true).create(make);
+    how.read(true);
     match runtime.open_file(&how, place.as_str()) {
-        Ok(opened) => {
-            *file = Some(opened);
+        Ok(file) if is_folder(&file) => Err(DiskFailed),
+        Ok(file) => {
+            *opened = Some(Opened {
+                file,
+                is_writable: false,
+            });
             Ok(())
         }
-        Err(e) if e.kind() == ErrorKind::NotFound && !make => Ok(()),
+        Err(e) if e.kind() == ErrorKind::NotFound => Ok(()),
         Err(_) => Err(DiskFailed),
+    }
+}
+
+// Opens the file for writing too, unless it is open so. A missing file is made.
+fn open_to_write<R: Files>(
+    runtime: &R,
+    path: &Option<String>,
+    opened: &mut Option<Opened<R::File>>,
+) -> Result<(), DiskFailed>
+    ensures { path.now ≡ None → IsErr result }
+{
+    let Some(place) = path else {
+        return Err(DiskFailed);
+    };
+    if let Some(already) = opened
+        && already.is_writable
+    {
+        return Ok(());
+    }
+    let mut how = OpenOptions::new();
+    how.read(true).write(true).create(true);
+    match runtime.open_file(&how, place.as_str()) {
+        Ok(file) => {
+            *opened = Some(Opened {
+                file,
+                is_writable: true,
+            });
+            Ok(())
+        }
+        Err(_) => Err(DiskFailed),
+    }
+}
+
+fn is_folder<F: OpenFile>(file: &F) -> bool {
+    match file.metadata() {
+        Ok(about) => about.is_dir(),
+        Err(_) => false,
     }
 }
 
@@ -40,15 +86,15 @@ fn open<R: Files>(
 pub(crate) fn real_len<R: Files>(
     runtime: &R,
     path: &Option<String>,
-    file: &mut Option<R::File>,
+    opened: &mut Option<Opened<R::File>>,
 ) -> Result<u64, DiskFailed>
     ensures { path.now ≡ None → IsErr result }
 {
-    open(runtime, path, file, false)?;
-    let Some(opened) = file else {
+    open_to_read(runtime, path, opened)?;
+    let Some(open) = opened else {
         return Ok(0);
     };
-    match opened.metadata() {
+    match open.file.metadata() {
         Ok(about) => Ok(about.len()),
         Err(_) => Err(DiskFailed),
     }
@@ -58,26 +104,21 @@ pub(crate) fn real_len<R: Files>(
 pub(crate) fn real_read<R: Files>(
     runtime: &R,
     path: &Option<String>,
-    file: &mut Option<R::File>,
+    opened: &mut Option<Opened<R::File>>,
     at: u64,
     buf: &mut [u8],
 ) -> Result<(), DiskFailed>
     ensures { path.now ≡ None → IsErr result }
 {
-    open(runtime, path, file, false)?;
-    match file {
-        None => {
-            if buf.is_empty() {
-                Ok(())
-            } else {
-                Err(DiskFailed)
-            }
-        }
-        Some(opened) => {
-            if opened.seek(SeekFrom::Start(at)).is_err() {
+    open_to_read(runtime, path, opened)?;
+    match opened {
+        None if buf.is_empty() => Ok(()),
+        None => Err(DiskFailed),
+        Some(open) => {
+            if open.file.seek(SeekFrom::Start(at)).is_err() {
                 return Err(DiskFailed);
             }
-            read_full(opened, buf)
+            read_full(&mut open.file, buf)
         }
     }
 }
@@ -86,17 +127,17 @@ pub(crate) fn real_read<R: Files>(
 pub(crate) fn real_write<R: Files>(
     runtime: &R,
     path: &Option<String>,
-    file: &mut Option<R::File>,
+    opened: &mut Option<Opened<R::File>>,
     at: u64,
     bytes: &[u8],
 ) -> Result<(), DiskFailed>
     ensures { path.now ≡ None → IsErr result }
 {
-    open(runtime, path, file, true)?;
-    let Some(opened) = file else {
+    open_to_write(runtime, path, opened)?;
+    let Some(open) = opened else {
         return Err(DiskFailed);
     };
-    if opened.seek(SeekFrom::Start(at)).is_err() || write_piece(opened, bytes).is_err() {
+    if open.file.seek(SeekFrom::Start(at)).is_err() || write_piece(&mut open.file, bytes).is_err() {
         return Err(DiskFailed);
     }
     Ok(())
@@ -106,15 +147,15 @@ pub(crate) fn real_write<R: Files>(
 pub(crate) fn real_sync<R: Files>(
     runtime: &R,
     path: &Option<String>,
-    file: &mut Option<R::File>,
+    opened: &mut Option<Opened<R::File>>,
 ) -> Result<(), DiskFailed>
     ensures { path.now ≡ None → IsErr result }
 {
-    open(runtime, path, file, false)?;
-    let Some(opened) = file else {
+    open_to_read(runtime, path, opened)?;
+    let Some(open) = opened else {
         return Ok(());
     };
-    match opened.sync_all() {
+    match open.file.sync_all() {
         Ok(()) => Ok(()),
         Err(_) => Err(DiskFailed),
     }
