@@ -43,11 +43,6 @@ abbrev pub picked_image : Pick → List Range → List ℕ → List ℕ → List
 picked_image pick ranges synced file =
     map (λ k. if in_doubt ranges k then byte_picked pick k (slice_index synced k) (slice_index file k) else slice_index synced k) (range_with_len 0 (length_picked pick (length synced) (furthest (length synced) ranges)))
 
--- in the ranges the bytes of one list, elsewhere those of the synced file, as far as the ranges reach
-pub record IsPatched (ranges : List Range) (synced picked image : List ℕ) : Type 0 where
-  pub len : length image ≡ furthest (length synced) ranges
-  pub each : (k : ℕ) → k < length image → slice_index image k ≡ (if in_doubt ranges k then slice_index picked k else slice_index synced k)
-
 abbrev pub image_at : Pick → List ℕ → Moment → List ℕ
 image_at pick first m =
     picked_image pick (ranges_of m.running ++ unsynced m.made) (synced_after first m.made) (file_after first (onto m.running m.made))

@@ -1,5 +1,6 @@
 // The calls that a host in memory keeps, and the file and the output that they make.
 ghost use Rattle.std.specs.Prelude.{◌≡◌, ◌≤◌, [], length, OnOk, OnErr, IfOk, IsTrue};
+ghost use Rattle.host_model.specs.Disk.{are_bytes};
 ghost use Rattle.host_model.specs.Host.{Left};
 ghost use Rattle.host_model.specs.Calls.{file_after, said_after, is_possible};
 ghost use Rattle.host_model.specs.Calls.Call.{Wrote, Synced, Put};
@@ -45,17 +46,19 @@ impl Model for Log {
 }
 
 impl Log {
-    // Nothing was called yet. `Memory`: no room for two copies of the file.
-    pub(crate) fn new(alloc: Global, file: &[u8], said: &[u8]) -> Result<Log, Memory>
-        ensures { IfOk result (λ l. l ≡ record { origin = record { image = file.now; output = said.now }; calls = [] }) }
+    // Nothing was called yet. `Memory`: no room for one more copy of the two.
+    pub(crate) fn new(alloc: Global, first: Vec<u8>, first_said: Vec<u8>) -> Result<Log, Memory>
+        ensures { IfOk result (λ l. l ≡ record { origin = record { image = first.items; output = first_said.items }; calls = [] }) }
     {
+        let file = copy_of(alloc, &first)?;
+        let said = copy_of(alloc, &first_said)?;
         Ok(Log {
             alloc,
-            first: file.to_vec(alloc)?,
-            first_said: said.to_vec(alloc)?,
+            first,
+            first_said,
             calls: Vec::new(alloc),
-            file: file.to_vec(alloc)?,
-            said: said.to_vec(alloc)?,
+            file,
+            said,
         })
     }
 
@@ -125,6 +128,14 @@ impl Log {
     {
         let image = image_after(alloc, &self.first, &self.calls, at, pick)?;
         let said = output_after(alloc, &self.first_said, &self.calls, at, pick)?;
-        Log::new(alloc, &image, &said)
+        Log::new(alloc, image, said)
     }
+}
+
+// A copy of some bytes. Each of them is below 256.
+fn copy_of(alloc: Global, bytes: &[u8]) -> Result<Vec<u8>, Memory>
+    ensures copied { IfOk result (λ v. v.items ≡ bytes.now) }
+    ensures in_range { IsTrue (are_bytes bytes.now) }
+{
+    bytes.to_vec(alloc)
 }

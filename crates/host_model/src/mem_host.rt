@@ -52,7 +52,7 @@ impl MemHost {
         ensures tells { IfOk result (λ h. IsTrue (shown_of h).tells_stops) }
     {
         Ok(MemHost {
-            log: Log::new(alloc, file, &[])?,
+            log: Log::new(alloc, file.to_vec(alloc)?, Vec::new(alloc))?,
             reads: 0,
             disk_faults: 0,
             out_faults: 0,

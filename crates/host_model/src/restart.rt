@@ -1,10 +1,9 @@
 // What a host in memory goes on with after a stop.
-ghost use Rattle.std.specs.Prelude.{◌≡◌, ◌≤◌, ◌<◌, ◌+◌, ◌-◌, true, length, min, take, drop, map, slice_index, OnOk, OnErr, IfOk};
+ghost use Rattle.std.specs.Prelude.{◌≡◌, ◌≤◌, ◌<◌, ◌+◌, ◌^◌, true, length, min, take, drop, map, slice_index, OnOk, IfOk};
 ghost use Rattle.std.specs.List.{range_with_len};
-ghost use Rattle.host_model.specs.Disk.{furthest};
 ghost use Rattle.host_model.specs.Calls.{file_after, said_after, synced_after, unsynced, is_possible};
 ghost use Rattle.host_model.specs.Log.{newest_first, written};
-ghost use Rattle.host_model.specs.Restart.{byte_picked, picked_image, moment, image_at, output_at, IsPatched};
+ghost use Rattle.host_model.specs.Restart.{byte_picked, picked_image, moment, image_at, output_at};
 
 use crate::Memory;
 use crate::log::Kept;
@@ -89,48 +88,42 @@ fn byte_or_zero(bytes: &[u8], k: usize) -> u8
     if k < bytes.len() { bytes[k] } else { 0 }
 }
 
-// What each byte of the file would be if it were in doubt.
-fn picked_bytes(alloc: Global, pick: Pick, synced: &[u8], file: &[u8]) -> Result<Vec<u8>, Memory>
-    ensures { IfOk result (λ v. v.items ≡
-        map (λ k. byte_picked pick k (slice_index synced.now k) (slice_index file.now k)) (range_with_len 0 (length file.now))) }
+// What is picked for the bytes of a write that began at this place of an image.
+fn picked_bytes(
+    alloc: Global,
+    pick: Pick,
+    image: &[u8],
+    at: usize,
+    bytes: &[u8],
+) -> Result<Vec<u8>, Memory>
+    requires { at + length bytes.now < 2 ^ 64 }
+    ensures { IfOk result (λ v. v.items ≡ map (λ i. byte_picked pick (at + i) (slice_index image.now (at + i)) (slice_index bytes.now i))
+        (range_with_len 0 (length bytes.now))) }
 {
-    let mut picked = Vec::with_capacity(alloc, file.len())?;
-    for (k, new) in file.iter().enumerate() {
-        picked.push(picked_byte(pick, k, byte_or_zero(synced, k), *new))?;
+    let mut picked = Vec::with_capacity(alloc, bytes.len())?;
+    for (i, new) in bytes.iter().enumerate() {
+        let k = at + i;
+        picked.push(picked_byte(pick, k, byte_or_zero(image, k), *new))?;
     }
     Ok(picked)
 }
 
-// Puts picked bytes in the place of those that these calls wrote.
-fn patch(image: &mut Vec<u8>, picked: &[u8], calls: &[Kept]) -> Result<(), Memory>
-    requires possible { is_possible image.old.items (newest_first calls.now) ≡ true }
-    requires long { length picked.now ≡ furthest (length image.old.items) (written (newest_first calls.now)) }
-    ensures { OnOk result
-        (IsPatched (written (newest_first calls.now)) image.old.items picked.now image.new.items) }
+// Makes of a file as it was synced the image that is picked, with these calls since.
+fn patch(alloc: Global, pick: Pick, image: &mut Vec<u8>, calls: &[Kept]) -> Result<(), Memory>
+    requires { is_possible image.old.items (newest_first calls.now) ≡ true }
+    ensures { OnOk result (image.new.items ≡ picked_image pick (written (newest_first calls.now)) image.old.items
+        (file_after image.old.items (newest_first calls.now))) }
 {
+    if let Pick::Old = pick {
+        return Ok(());
+    }
     for call in calls {
         if let Kept::Write { at, bytes } = call {
-            overwrite(image, *at, &picked[*at..*at + bytes.len()])?;
+            let picked = picked_bytes(alloc, pick, image, *at, bytes)?;
+            overwrite(image, *at, &picked)?;
         }
     }
     Ok(())
-}
-
-// The image of a file that was synced as this one, with these calls since.
-fn image_of(alloc: Global, pick: Pick, synced: &[u8], calls: &[Kept]) -> Result<Vec<u8>, Memory>
-    requires { is_possible synced.now (newest_first calls.now) ≡ true }
-    ensures { IfOk result (λ v. v.items ≡ picked_image pick (written (newest_first calls.now)) synced.now
-        (file_after synced.now (newest_first calls.now))) }
-{
-    let mut image = synced.to_vec(alloc)?;
-    if let Pick::Old = pick {
-        return Ok(image);
-    }
-    let mut file = synced.to_vec(alloc)?;
-    replay(&mut file, calls)?;
-    let picked = picked_bytes(alloc, pick, synced, &file)?;
-    patch(&mut image, &picked, calls)?;
-    Ok(image)
 }
 
 // How many calls were made at a stop within the call that follows the first `at`, with that one.
@@ -155,9 +148,10 @@ pub(crate) fn image_after(
 {
     let end = stop_end(calls, at);
     let since = sync_point(&calls[..at]);
-    let mut synced = first.to_vec(alloc)?;
-    replay(&mut synced, &calls[..since])?;
-    image_of(alloc, pick, &synced, &calls[since..end])
+    let mut image = first.to_vec(alloc)?;
+    replay(&mut image, &calls[..since])?;
+    patch(alloc, pick, &mut image, &calls[since..end])?;
+    Ok(image)
 }
 
 // The output of the same pair.
