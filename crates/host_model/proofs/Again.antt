@@ -54,9 +54,3 @@ possible_at file kept i d at bytes l e p =
     let here = sym (ap (λ cs. is_possible file cs) more) ∙ possible_take file kept (i + 1) p in
     leb-true _ _ (and_parts _ _ (and_parts _ _ here).1).1
 
--- one call more of those that were made again
-pub file_after-more : (file now : List ℕ) (kept : List Kept) (i : ℕ) (d : Kept) (call : Call) → i < length kept → call_of (get_or kept i d) ≡ call → now ≡ file_after file (call ∷ newest_first (take i kept)) → now ≡ file_after file (newest_first (take (i + 1) kept))
-file_after-more file now kept i d call l e h = h ∙ ap (λ c. file_after file (c ∷ newest_first (take i kept))) (sym e) ∙ ap (λ cs. file_after file cs) (sym (newest_first-more kept i d l))
-
-pub said_after-more : (said now : List ℕ) (kept : List Kept) (i : ℕ) (d : Kept) (call : Call) → i < length kept → call_of (get_or kept i d) ≡ call → now ≡ said_after said (call ∷ newest_first (take i kept)) → now ≡ said_after said (newest_first (take (i + 1) kept))
-said_after-more said now kept i d call l e h = h ∙ ap (λ c. said_after said (c ∷ newest_first (take i kept))) (sym e) ∙ ap (λ cs. said_after said cs) (sym (newest_first-more kept i d l))

@@ -238,22 +238,5 @@ put_goes h piece =
 
 -- a call that failed, or that only reads
 
-pub tears_nothing : (at n : ℕ) (c : Left) → are_bytes c.image ≡ true → Tears at n c c
-tears_nothing at n c b = record { image = record { differs = DiffersIn-refl _ c.image; bytes = b }; output = refl }
-
-pub says_nothing : (piece : List ℕ) (c : Left) → Says piece c c
-says_nothing piece c = record { image = refl; output = record { count = 0; fits = omega arith; grown = sym (append-nil c.output) } }
-
 -- where all rests, a call went on that had no effect
 
-pub rests_still : (effect : Left → Left → Type 0) (old new : Shown) → Rests old new → ((c : Left) → old.may_leave c → effect c c) → Goes effect old new
-rests_still effect old new rests same = record {
-  tells = rests.tells;
-  later = omega (arith, rests.clock);
-  by_one = omega (arith, rests.clock);
-  after = λ c left. record { start = c; was_left = (rests.leaves c).0 left; done = same c ((rests.leaves c).0 left) };
-  during = λ t c le left. inl ((rests.since t c).0 left);
-  keeps = λ t c le left. (rests.since t c).1 left;
-  reaches = λ told moved. absurd (omega (arith, rests.clock));
-  still = λ told e. rests;
-}

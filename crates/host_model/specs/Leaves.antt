@@ -2,7 +2,6 @@
 use Rattle.std.specs.Prelude.{◌≡◌, ◌++◌, ◌⊎◌, ℕ, List, Some}
 use Rattle.std.proofs.Common.{arith, sym, ◌∙◌, refl, subst, inl, inr, ⊎_elim}
 use Rattle.host_model.specs.Disk.{Range, IsImage}
-use Rattle.host_model.specs.Torn.{DiffersIn-then}
 use Rattle.host_model.specs.Host.{Left, Shown, IsCoherent, Settled, Reached, TearsIn, Stays, Says, Rests, Goes, LeavesOnly}
 
 -- Before its first call a run leaves nothing new.
@@ -33,24 +32,9 @@ leaves_then old mid new P first next = record {
 pub leaves_weaker : (old new : Shown) (P Q : Left → Type 0) → ((c : Left) → P c → Q c) → LeavesOnly old new P → LeavesOnly old new Q
 leaves_weaker old new P Q so run = record { tells = run.tells; later = run.later; during = λ t c le left. ⊎_elim (λ before. inl before) (λ p. inr (so c p)) (run.during t c le left) }
 
--- Each pair that a stop since the start of a run leaves has P, where what was left at the start has P.
-pub leaves_each : (old new : Shown) (P : Left → Type 0) → IsCoherent old → ((c : Left) → old.may_leave c → P c) → LeavesOnly old new P → (c : Left) → new.left_since old.clock c → P c
-leaves_each old new P coherent here run c left = ⊎_elim (λ before. here c (coherent.only_now c before)) (λ p. p) (run.during old.clock c (omega arith) left)
-
 -- While a sync runs, and after it, a stop leaves only what it left before.
 pub stays_was_left : (before : Left → Type 0) (c : Left) → Reached Stays before c → before c
 stays_was_left before c r = subst before (sym r.done) r.was_left
-
--- Writes to some ranges, and then to others, are writes to all of them.
-pub tears_then : (qs rs : List Range) (before : Left → Type 0) (c : Left) → Reached (TearsIn qs) (Reached (TearsIn rs) before) c → Reached (TearsIn (qs ++ rs)) before c
-tears_then qs rs before c r = let first = r.was_left in record {
-  start = first.start;
-  was_left = first.was_left;
-  done = record {
-    image = record { differs = DiffersIn-then qs rs _ _ _ first.done.image.differs r.done.image.differs; bytes = r.done.image.bytes };
-    output = r.done.output ∙ first.done.output;
-  };
-}
 
 -- From a settled host, writes leave its file torn in their ranges.
 pub torn_from_settled : (ranges : List Range) (h : Shown) (f : List ℕ) (c : Left) → Settled h → h.file ≡ Some f

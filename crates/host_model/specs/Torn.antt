@@ -26,10 +26,6 @@ get_same a b k la lb e = slice_get-get_or a k 0 la ∙ ap Some e ∙ sym (slice_
 pub get_past : (a b : List ℕ) (k : ℕ) → length a ≤ k → length b ≤ k → slice_get a k ≡ slice_get b k
 get_past a b k la lb = slice_get_past a k la ∙ sym (slice_get_past b k lb)
 
--- A place is in a range from its first to before its end, and in no other case.
-pub is_in-true : (r : Range) (k : ℕ) → r.from ≤ k → k < r.from + r.count → is_in r k ≡ true
-is_in-true r k a b = and_from _ _ (le-leb _ _ a) (lt-ltb _ _ b)
-
 pub is_in-false : (r : Range) (k : ℕ) → is_in r k ≡ false → (k < r.from) ⊎ (r.from + r.count ≤ k)
 is_in-false r k e = ⊎_elim (λ a. inl (leb-false _ _ a)) (λ b. inr (ltb-false _ _ b)) (and_cases _ _ e)
 
@@ -86,16 +82,6 @@ DiffersIn-written at bytes file l =
       no_longer = omega (arith, len);
     }
 
--- a place is in doubt in some of the ranges or in the others
-pub in_doubt-append : (qs rs : List Range) (k : ℕ) → in_doubt (qs ++ rs) k ≡ (in_doubt qs k || in_doubt rs k)
-in_doubt-append [] rs k = sym (false-or (in_doubt rs k))
-in_doubt-append (q ∷ qs) rs k = ap (λ b. is_in q k || b) (in_doubt-append qs rs k) ∙ sym (or_assoc (is_in q k) (in_doubt qs k) (in_doubt rs k))
-
--- ranges reach as far from where others reached
-pub furthest-then : (qs rs : List Range) (m n : ℕ) → n ≤ furthest m rs → furthest n qs ≤ furthest m (qs ++ rs)
-furthest-then [] rs m n l = l
-furthest-then (q ∷ qs) rs m n l = omega (arith, furthest-then qs rs m n l)
-
 -- Nothing written differs nowhere.
 pub DiffersIn-refl : (ranges : List Range) (file : List ℕ) → DiffersIn ranges file file
 DiffersIn-refl ranges file = record { outside = λ k e. refl; no_shorter = omega arith; no_longer = furthest-ge (length file) ranges }
@@ -108,33 +94,6 @@ DiffersIn-more r rs a b c p q = record {
   no_longer = omega (arith, p.no_longer, q.no_longer);
 }
 
--- What may differ in some ranges, and then in others, differs in all of them.
-pub DiffersIn-then : (qs rs : List Range) (a b c : List ℕ) → DiffersIn rs a b → DiffersIn qs b c → DiffersIn (qs ++ rs) a c
-DiffersIn-then qs rs a b c p q = record {
-  outside = λ k e. let parts = or_parts _ _ (sym (in_doubt-append qs rs k) ∙ e) in q.outside k parts.0 ∙ p.outside k parts.1;
-  no_shorter = omega (arith, p.no_shorter, q.no_shorter);
-  no_longer = omega (arith, q.no_longer, furthest-then qs rs (length a) (length b) p.no_longer);
-}
-
--- A torn write leaves the part before its range.
-pub before_range : (at n : ℕ) (old new : List ℕ) → DiffersIn (range at n ∷ []) old new → at ≤ length old → take at new ≡ take at old
-before_range at n old new d l =
-    let longer = d.no_shorter in
-    ext_get_or 0 _ _ (simp length-take (omega arith)) (λ k b.
-    let below : k < at = omega (arith, simp length-take at b) in
-    let same = same_at new old k 0 (d.outside k (alone (range at n) k (is_in-below (range at n) k below))) (omega arith) in
-    get_or-take at new k 0 below ∙ same.1 ∙ sym (get_or-take at old k 0 below))
-
--- A torn write leaves the part behind its range.
-pub behind_range : (at n : ℕ) (old new : List ℕ) → DiffersIn (range at n ∷ []) old new → drop (at + n) new ≡ drop (at + n) old
-behind_range at n old new d =
-    let longer = d.no_shorter in
-    let bound = d.no_longer in
-    ext_get_or 0 _ _ (simp length-drop (omega arith)) (λ k b.
-    let within : k + (at + n) < length new = omega (arith, simp length-drop at b) in
-    let same = same_at new old (at + n + k) 0 (d.outside (at + n + k) (alone (range at n) (at + n + k) (is_in-above (range at n) (at + n + k) (omega arith)))) (omega arith) in
-    get_or-drop (at + n) new k 0 ∙ same.1 ∙ sym (get_or-drop (at + n) old k 0))
-
 -- A part of the old file that the ranges do not meet is as it was.
 pub outside_ranges : (ranges : List Range) (i j : ℕ) (old new : List ℕ) → DiffersIn ranges old new → j ≤ length old → ((k : ℕ) → i ≤ k → k < j → in_doubt ranges k ≡ false) → slice_range new i j ≡ slice_range old i j
 outside_ranges ranges i j old new d l free =
@@ -143,42 +102,6 @@ outside_ranges ranges i j old new d l free =
     let within : i + k < j = omega (arith, simp (length-take, length-drop) at b) in
     let same = same_at new old (i + k) 0 (d.outside (i + k) (free (i + k) (omega arith) within)) (omega arith) in
     get_or-take (j - i) (drop i new) k 0 (omega arith) ∙ get_or-drop i new k 0 ∙ same.1 ∙ sym (get_or-take (j - i) (drop i old) k 0 (omega arith) ∙ get_or-drop i old k 0))
-
--- So is a part before one range or behind it.
-pub outside_range : (at n i j : ℕ) (old new : List ℕ) → DiffersIn (range at n ∷ []) old new → j ≤ length old → (j ≤ at) ⊎ (at + n ≤ i) → slice_range new i j ≡ slice_range old i j
-outside_range at n i j old new d l apart =
-    outside_ranges (range at n ∷ []) i j old new d l (λ k a b. alone (range at n) k (⊎_elim
-    (λ before. is_in-below (range at n) k (omega arith))
-    (λ behind. is_in-above (range at n) k (omega arith))
-    apart))
-
--- A write of no byte leaves the file.
-pub nothing_torn : (at : ℕ) (old new : List ℕ) → DiffersIn (range at 0 ∷ []) old new → at ≤ length old → new ≡ old
-nothing_torn at old new d l =
-    let before = before_range at 0 old new d l in
-    let behind : drop at new ≡ drop at old = rw add-zero at (behind_range at 0 old new d) in
-    let old_parts = take-append-drop at old in
-    let new_parts = take-append-drop at new in
-    cc
-
--- What may differ in a range may differ in a wider one.
-pub widened : (at n from count : ℕ) (old new : List ℕ) → from ≤ at → at + n ≤ from + count → DiffersIn (range at n ∷ []) old new → DiffersIn (range from count ∷ []) old new
-widened at n from count old new a b d = record {
-  outside = λ k e. d.outside k (alone (range at n) k (⊎_elim
-      (λ before. is_in-below (range at n) k (omega arith))
-      (λ behind. is_in-above (range at n) k (omega arith))
-      (is_in-false (range from count) k (or_parts _ _ e).0)));
-  no_shorter = d.no_shorter;
-  no_longer = omega (arith, d.no_longer);
-}
-
--- Two torn writes of one range are one.
-pub torn_again : (at n : ℕ) (a b c : List ℕ) → DiffersIn (range at n ∷ []) a b → DiffersIn (range at n ∷ []) b c → DiffersIn (range at n ∷ []) a c
-torn_again at n a b c p q = record {
-  outside = λ k e. q.outside k e ∙ p.outside k e;
-  no_shorter = omega (arith, p.no_shorter, q.no_shorter);
-  no_longer = omega (arith, p.no_longer, q.no_longer);
-}
 
 -- Each of some bytes is below 256; past their end 0 is read.
 pub are_bytes-at : (xs : List ℕ) (k : ℕ) → are_bytes xs ≡ true → get_or xs k 0 < 256

@@ -32,15 +32,3 @@ untold_coherent f o disk out = record {
   out_faults_fit = count_fits out;
 }
 
--- each of its calls goes on as it should, since nothing is told
-pub untold_goes : (effect : Left → Left → Type 0) (f o g p : Option (List ℕ)) (disk out disks outs : ℕ) → Goes effect (without_stops f o disk out) (without_stops g p disks outs)
-untold_goes effect f o g p disk out disks outs = record {
-  tells = refl;
-  later = omega arith;
-  by_one = omega arith;
-  after = λ c left. absurd left;
-  during = λ t c le left. absurd left;
-  keeps = λ t c le left. left;
-  reaches = λ told. absurd (false≢true told);
-  still = λ told. absurd (false≢true told);
-}

@@ -2,8 +2,7 @@
 use Rattle.std.proofs.Common.{◌≡◌, ◌≤◌, ◌-◌, ◌∙◌, ap, take, drop, rules, arith}
 use Rattle.std.proofs.lemmas.List.{length-take-le}
 use Rattle.host_model.specs.Calls.{file_after, is_possible}
-use Rattle.host_model.specs.Log.{newest_first, written}
-use Rattle.host_model.specs.Restart.{picked_image}
+use Rattle.host_model.specs.Log.{newest_first}
 use Rattle.host_model.proofs.Again.{possible_take, possible_drop}
 use Rattle.host_model.proofs.Moments.{image_is}
 use Rattle.host_model.proofs.restart.image_after.Goals as goal

@@ -1,5 +1,5 @@
 -- A write among the calls begins in the image so far, and is patched.
-use Rattle.std.proofs.Common.{◌≡◌, ◌<◌, ◌+◌, ◌∙◌, ℕ, Vec, Global, vec_items, take, ap, sym, subst, refl, length, get_or, rules, arith}
+use Rattle.std.proofs.Common.{◌≡◌, ◌+◌, ◌∙◌, ℕ, Vec, Global, vec_items, take, ap, sym, subst, refl, get_or, rules, arith}
 use Rattle.std.proofs.lemmas.List.{take_all}
 use Rattle.host_model.specs.Calls.{file_after}
 use Rattle.host_model.specs.Calls.Call.{Wrote}
@@ -8,7 +8,7 @@ use Rattle.host_model.specs.Log.{call_of, newest_first, written}
 use Rattle.host_model.specs.Restart.{picked_image}
 use Rattle.host_model.specs.declared.log.Kept.{Kept}
 use Rattle.host_model.specs.declared.log.Kept.TheVariants.{Write, Sync, Piece}
-use Rattle.host_model.proofs.Patches.{IsPicked, IsPicked-none, picked_for, picked_for-is, picked_is, picked_old, write_starts, picked_write, picked_other}
+use Rattle.host_model.proofs.Patches.{IsPicked, picked_for, picked_for-is, picked_is, picked_old, write_starts, picked_write, picked_other}
 use Rattle.host_model.proofs.restart.patch.Goals as goal
 use Rattle.host_model.proofs.restart.patch.Goals.{in-Write+in_ok-picked+in_ok-overwrite, in_default-call}
 
