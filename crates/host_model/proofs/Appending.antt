@@ -4,7 +4,8 @@ use Rattle.std.proofs.Math.Seq.{take-add}
 use Rattle.std.specs.Io.KnownBytes.{Appends}
 
 -- a writer that got the first i bytes, and then n more
-pub Appends-take_add : (a b c : Option (List ℕ)) (i n : ℕ) (bytes : List ℕ) → Appends a b (take i bytes) → Appends b c (take n (drop i bytes)) → Appends a c (take (i + n) bytes)
+pub Appends-take_add : (a b c : Option (List ℕ)) (i n : ℕ) (bytes : List ℕ) → Appends a b (take i bytes) → Appends b c (take n (drop i bytes))
+    → Appends a c (take (i + n) bytes)
 Appends-take_add None b c i n bytes p q = tt
 Appends-take_add (Some x) None c i n bytes p q = absurd p
 Appends-take_add (Some x) (Some y) None i n bytes p q = absurd q

@@ -17,8 +17,11 @@ Consumes-append (Some x) (Some y) (Some z) xs ys p q = p ∙ ap (λ l. xs ++ l) 
 pub take-filled : (a k n : ℕ) (xs ys : List ℕ) → a ≤ length xs → n ≤ length ys → take (a + n) (put_mid a k xs ys) ≡ take a xs ++ take n ys
 take-filled a k n xs ys l m =
     let front = length-take-le a xs l in
-    sym (take-take (a + n) (a + length ys) (put_mid a k xs ys) (omega arith)) ∙ ap (take (a + n)) (take-put_mid a k xs ys (a + length ys) refl l) ∙ take-add a n (take a xs ++ ys)
+    sym (take-take (a + n) (a + length ys) (put_mid a k xs ys) (omega arith)) ∙ ap (take (a + n)) (take-put_mid a k xs ys (a + length ys) refl l)
+    ∙ take-add a n (take a xs ++ ys)
     ∙ ap (λ l. l ++ take n (drop a (take a xs ++ ys))) (take_at (take a xs) ys a front) ∙ ap (λ l. take a xs ++ take n l) (drop_at (take a xs) ys a front)
 
-pub Consumes-filled : (a b c : Option (List ℕ)) (i k n : ℕ) (xs ys : List ℕ) → i ≤ length xs → n ≤ length ys → Consumes a b (take i xs) → Consumes b c (take n ys) → Consumes a c (take (i + n) (put_mid i k xs ys))
-Consumes-filled a b c i k n xs ys l m p q = subst (λ bs. Consumes a c bs) (sym (take-filled i k n xs ys l m)) (Consumes-append a b c (take i xs) (take n ys) p q)
+pub Consumes-filled : (a b c : Option (List ℕ)) (i k n : ℕ) (xs ys : List ℕ) → i ≤ length xs → n ≤ length ys → Consumes a b (take i xs)
+    → Consumes b c (take n ys) → Consumes a c (take (i + n) (put_mid i k xs ys))
+Consumes-filled a b c i k n xs ys l m p q = subst (λ bs. Consumes a c bs) (sym (take-filled i k n xs ys l m))
+    (Consumes-append a b c (take i xs) (take n ys) p q)

@@ -14,10 +14,13 @@ pub newest_first-push : (kept : List Kept) (last : Kept) → newest_first (kept 
 newest_first-push kept last = ap reverse (map-append call_of kept (last ∷ [])) ∙ reverse-append (map call_of kept) (call_of last ∷ [])
 
 -- after a write that was kept
-pub IsKept-write : (first first_said : List ℕ) (kept new : List Kept) (last : Kept) (at : ℕ) (bytes file now said : List ℕ) → IsKept first first_said kept file said
-    → call_of last ≡ Wrote at bytes → new ≡ kept ++ last ∷ [] → now ≡ written_at at bytes file → are_bytes bytes ≡ true → at ≤ length file → IsKept first first_said new now said
+pub IsKept-write : (first first_said : List ℕ) (kept new : List Kept) (last : Kept) (at : ℕ) (bytes file now said : List ℕ)
+    → IsKept first first_said kept file said
+    → call_of last ≡ Wrote at bytes → new ≡ kept ++ last ∷ [] → now ≡ written_at at bytes file → are_bytes bytes ≡ true → at ≤ length file
+    → IsKept first first_said new now said
 IsKept-write first first_said kept new last at bytes file now said k is_last is_new is_now b l =
-    let calls : newest_first new ≡ Wrote at bytes ∷ newest_first kept = ap newest_first is_new ∙ newest_first-push kept last ∙ ap (λ c. c ∷ newest_first kept) is_last in
+    let calls : newest_first new ≡ Wrote at bytes ∷ newest_first kept = ap newest_first is_new ∙ newest_first-push kept last
+    ∙ ap (λ c. c ∷ newest_first kept) is_last in
     record {
       reads = is_now ∙ ap (λ f. written_at at bytes f) k.reads ∙ sym (ap (λ cs. file_after first cs) calls);
       output = k.output ∙ sym (ap (λ cs. said_after first_said cs) calls);

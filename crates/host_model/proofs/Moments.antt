@@ -18,11 +18,13 @@ moment_all n [] e = refl
 moment_all n (call ∷ calls) e = rw (lt-ltb (length calls) n (omega arith)) refl
 
 -- within a call
-pub moment_within : (n : ℕ) (later : List Call) (call : Call) (earlier : List Call) → length earlier ≡ n → moment n (later ++ call ∷ earlier) ≡ record { made = earlier; running = Some call }
+pub moment_within : (n : ℕ) (later : List Call) (call : Call) (earlier : List Call) → length earlier ≡ n
+    → moment n (later ++ call ∷ earlier) ≡ record { made = earlier; running = Some call }
 moment_within n [] call earlier e = rw (le-ltb (length earlier) n (omega arith), eq-eqb n (length earlier) (sym e)) refl
 moment_within n (next ∷ later) call earlier e =
     let longer = length-append later (call ∷ earlier) in
-    rw (le-ltb (length (later ++ call ∷ earlier)) n (omega (arith, longer)), ne_eqb n (length (later ++ call ∷ earlier)) (λ same. omega (arith, longer))) (moment_within n later call earlier e)
+    rw (le-ltb (length (later ++ call ∷ earlier)) n (omega (arith, longer)), ne_eqb n (length (later ++ call ∷ earlier)) (λ same. omega (arith, longer)))
+    (moment_within n later call earlier e)
 
 written-cons : (call : Call) (calls : List Call) → written (call ∷ calls) ≡ ranges_of (Some call) ++ written calls
 written-cons (Wrote at bytes) calls = refl
@@ -38,7 +40,8 @@ pub record IsStop (kept : List Kept) (at end since : ℕ) (m : Moment) : Type 0 
   pub is : moment at (newest_first kept) ≡ m
   pub made : m.made ≡ newest_first (take at kept)
   pub whole : onto m.running m.made ≡ newest_first (take end kept)
-  pub doubt : unsynced (newest_first (take at kept)) ≡ written (newest_first (drop since (take at kept))) → ranges_of m.running ++ unsynced m.made ≡ written (newest_first (drop since (take end kept)))
+  pub doubt : unsynced (newest_first (take at kept)) ≡ written (newest_first (drop since (take at kept)))
+      → ranges_of m.running ++ unsynced m.made ≡ written (newest_first (drop since (take end kept)))
 
 stop_all : (kept : List Kept) (at end since : ℕ) → at ≡ length kept → end ≡ at → IsStop kept at end since (record { made = newest_first kept; running = None })
 stop_all kept at end since all last =
@@ -51,40 +54,54 @@ stop_all kept at end since all last =
       doubt = λ e. ap unsynced (ap newest_first (sym whole)) ∙ e ∙ ap (λ ks. written (newest_first (drop since ks))) (whole ∙ sym to_end);
     }
 
-stop_within : (kept : List Kept) (at end since : ℕ) (d : Kept) → at < length kept → end ≡ at + 1 → since ≤ at → IsStop kept at end since (record { made = newest_first (take at kept); running = Some (call_of (get_or kept at d)) })
+stop_within : (kept : List Kept) (at end since : ℕ) (d : Kept) → at < length kept → end ≡ at + 1 → since ≤ at
+    → IsStop kept at end since (record { made = newest_first (take at kept); running = Some (call_of (get_or kept at d)) })
 stop_within kept at end since d l last within =
     let x : Kept = get_or kept at d in
     let more = newest_first-more kept at d l in
-    let whole : newest_first kept ≡ newest_first (drop (at + 1) kept) ++ call_of x ∷ newest_first (take at kept) = newest_first-parts (at + 1) kept ∙ ap (λ cs. newest_first (drop (at + 1) kept) ++ cs) more in
+    let whole : newest_first kept ≡ newest_first (drop (at + 1) kept) ++ call_of x ∷ newest_first (take at kept) = newest_first-parts (at + 1) kept
+    ∙ ap (λ cs. newest_first (drop (at + 1) kept) ++ cs) more in
     let short = length-take-le at kept (omega arith) in
-    let rest : drop since (take end kept) ≡ drop since (take at kept) ++ x ∷ [] = ap (λ n. drop since (take n kept)) last ∙ ap (drop since) (take_more kept at d l) ∙ drop-append-le since (take at kept) (x ∷ []) (omega (arith, short)) in
+    let rest : drop since (take end kept) ≡ drop since (take at kept) ++ x ∷ [] = ap (λ n. drop since (take n kept)) last
+    ∙ ap (drop since) (take_more kept at d l) ∙ drop-append-le since (take at kept) (x ∷ []) (omega (arith, short)) in
     record {
-      is = ap (moment at) whole ∙ moment_within at (newest_first (drop (at + 1) kept)) (call_of x) (newest_first (take at kept)) (length-newest_first (take at kept) ∙ short);
+      is = ap (moment at) whole
+          ∙ moment_within at (newest_first (drop (at + 1) kept)) (call_of x) (newest_first (take at kept)) (length-newest_first (take at kept) ∙ short);
       made = refl;
       whole = sym more ∙ ap (λ n. newest_first (take n kept)) (sym last);
       doubt = λ e. ap (λ rs. ranges_of (Some (call_of x)) ++ rs) e ∙ sym (written-cons (call_of x) (newest_first (drop since (take at kept))))
           ∙ ap written (sym (newest_first-append (drop since (take at kept)) (x ∷ []))) ∙ ap (λ ks. written (newest_first ks)) (sym rest);
     }
 
-pub stop_at : (kept : List Kept) (at end since : ℕ) → at ≤ length kept → end ≡ min (at + 1) (length kept) → since ≤ at → (m : Moment) × IsStop kept at end since m
+pub stop_at : (kept : List Kept) (at end since : ℕ) → at ≤ length kept → end ≡ min (at + 1) (length kept) → since ≤ at → (m : Moment)
+    × IsStop kept at end since m
 stop_at kept at end since l last within =
     ⊎_elim
-    (λ below. (record { made = newest_first (take at kept); running = Some (call_of (get_or kept at Sync)) }, stop_within kept at end since Sync below (omega arith) within))
+    (λ below. (
+      record { made = newest_first (take at kept); running = Some (call_of (get_or kept at Sync)) },
+      stop_within kept at end since Sync below
+          (omega arith) within,
+    ))
     (λ above. (record { made = newest_first kept; running = None }, stop_all kept at end since (omega arith) (omega arith)))
     (cases_lt at (length kept))
 
 -- what was picked since the last sync is the image of the moment
 pub image_is : (pick : Pick) (first synced : List ℕ) (kept : List Kept) (at end since : ℕ) → at ≤ length kept → end ≡ min (at + 1) (length kept) → since ≤ at
-    → unsynced (newest_first (take at kept)) ≡ written (newest_first (drop since (take at kept))) → synced_after first (newest_first (take at kept)) ≡ file_after first (newest_first (take since (take at kept)))
+    → unsynced (newest_first (take at kept)) ≡ written (newest_first (drop since (take at kept)))
+    → synced_after first (newest_first (take at kept)) ≡ file_after first (newest_first (take since (take at kept)))
     → synced ≡ file_after first (newest_first (take since kept))
-    → picked_image pick (written (newest_first (take (end - since) (drop since kept)))) synced (file_after synced (newest_first (take (end - since) (drop since kept)))) ≡ image_at pick first (moment at (newest_first kept))
+    → picked_image pick (written (newest_first (take (end - since) (drop since kept)))) synced
+    (file_after synced (newest_first (take (end - since) (drop since kept)))) ≡ image_at pick first (moment at (newest_first kept))
 image_is pick first synced kept at end since l last within doubt last_sync is =
     let stop = stop_at kept at end since l last within in
     let m : Moment = stop.0 in
     let s = stop.1 in
-    let part : drop since (take end kept) ≡ take (end - since) (drop since kept) = ap (λ n. drop since (take n kept)) (omega arith) ∙ drop-take since (end - since) kept in
-    let ranges : written (newest_first (take (end - since) (drop since kept))) ≡ ranges_of m.running ++ unsynced m.made = ap (λ ks. written (newest_first ks)) (sym part) ∙ sym (s.doubt doubt) in
-    let base : synced ≡ synced_after first m.made = is ∙ ap (λ ks. file_after first (newest_first ks)) (sym (take-take since at kept within)) ∙ sym last_sync ∙ ap (synced_after first) (sym s.made) in
+    let part : drop since (take end kept) ≡ take (end - since) (drop since kept) = ap (λ n. drop since (take n kept)) (omega arith)
+    ∙ drop-take since (end - since) kept in
+    let ranges : written (newest_first (take (end - since) (drop since kept))) ≡ ranges_of m.running ++ unsynced m.made = ap (λ ks. written (newest_first ks))
+    (sym part) ∙ sym (s.doubt doubt) in
+    let base : synced ≡ synced_after first m.made = is ∙ ap (λ ks. file_after first (newest_first ks)) (sym (take-take since at kept within)) ∙ sym last_sync
+    ∙ ap (synced_after first) (sym s.made) in
     let front : take since (take end kept) ≡ take since kept = take-take since end kept (omega arith) in
     let file : file_after synced (newest_first (take (end - since) (drop since kept))) ≡ file_after first (onto m.running m.made) =
     ap (λ f. file_after f (newest_first (take (end - since) (drop since kept)))) (is ∙ ap (λ ks. file_after first (newest_first ks)) (sym front))
@@ -104,12 +121,15 @@ output_but_old New first m h = refl
 output_but_old (Fill byte) first m h = refl
 output_but_old (Mix number) first m h = refl
 
-pub output_old : (first : List ℕ) (kept : List Kept) (at : ℕ) → at ≤ length kept → said_after first (newest_first (take at kept)) ≡ output_at Old first (moment at (newest_first kept))
+pub output_old : (first : List ℕ) (kept : List Kept) (at : ℕ) → at ≤ length kept
+    → said_after first (newest_first (take at kept)) ≡ output_at Old first (moment at (newest_first kept))
 output_old first kept at l =
     let stop = stop_at kept at (min (at + 1) (length kept)) 0 l refl (omega arith) in
     ap (said_after first) (sym stop.1.made) ∙ ap (λ m. said_after first m.made) (sym stop.1.is)
 
-pub output_whole : (pick : Pick) (first : List ℕ) (kept : List Kept) (at end : ℕ) → at ≤ length kept → end ≡ min (at + 1) (length kept) → (pick ≡ Old → ⊥) → said_after first (newest_first (take end kept)) ≡ output_at pick first (moment at (newest_first kept))
+pub output_whole : (pick : Pick) (first : List ℕ) (kept : List Kept) (at end : ℕ) → at ≤ length kept → end ≡ min (at + 1) (length kept) → (pick ≡ Old → ⊥)
+    → said_after first (newest_first (take end kept)) ≡ output_at pick first (moment at (newest_first kept))
 output_whole pick first kept at end l last not_old =
     let stop = stop_at kept at end 0 l last (omega arith) in
-    ap (said_after first) (sym stop.1.whole) ∙ ap (λ m. said_after first (onto m.running m.made)) (sym stop.1.is) ∙ output_but_old pick first (moment at (newest_first kept)) not_old
+    ap (said_after first) (sym stop.1.whole) ∙ ap (λ m. said_after first (onto m.running m.made)) (sym stop.1.is)
+    ∙ output_but_old pick first (moment at (newest_first kept)) not_old

@@ -17,7 +17,8 @@ use Rattle.host_model.specs.declared.restart.Pick.{Pick}
 use Rattle.host_model.specs.declared.restart.Pick.TheVariants.{Old, New, Fill, Mix}
 
 -- a file is as long as the writes reach that made it of another
-pub length_written : (file : List ℕ) (calls : List Call) → is_possible file calls ≡ true → length (file_after file calls) ≡ furthest (length file) (written calls)
+pub length_written : (file : List ℕ) (calls : List Call) → is_possible file calls ≡ true
+    → length (file_after file calls) ≡ furthest (length file) (written calls)
 length_written file [] p = refl
 length_written file (Wrote at bytes ∷ calls) p =
     let parts = possible_parts file calls at bytes p in
@@ -82,7 +83,8 @@ byte_so_far pick synced calls image k p = ⊎_elim
     (cases_lt k (length image))
 
 -- one write more
-IsPicked-write : (pick : Pick) (synced : List ℕ) (calls : List Call) (image : List ℕ) (at : ℕ) (bytes : List ℕ) → is_possible synced (Wrote at bytes ∷ calls) ≡ true
+IsPicked-write : (pick : Pick) (synced : List ℕ) (calls : List Call) (image : List ℕ) (at : ℕ) (bytes : List ℕ)
+    → is_possible synced (Wrote at bytes ∷ calls) ≡ true
     → IsPicked pick synced calls image → IsPicked pick synced (Wrote at bytes ∷ calls) (written_at at (picked_for pick image at bytes) image)
 IsPicked-write pick synced calls image at bytes possible p =
     let parts = possible_parts synced calls at bytes possible in
@@ -104,9 +106,15 @@ IsPicked-write pick synced calls image at bytes possible p =
           ∙ ap (λ old. byte_picked pick k old new) so_far.1 ∙ pick_in_doubt pick k (get_or synced k 0) (get_or file k 0) new so_far.0
           ∙ ap (λ x. byte_picked pick k (get_or synced k 0) x) (sym (get_or-written_in at bytes file k parts.2 inside.0 inside.1))
           ∙ sym (cond-true (is_in r k || in_doubt (written calls) k) (now k) (get_or synced k 0) (or_left _ _ yes)))
-          (λ out. let same : (get_or (written_at at picked image) k 0 ≡ get_or image k 0) × (k < length image) × (get_or (written_at at bytes file) k 0 ≡ get_or file k 0) = ⊎_elim
+          (λ out. let same : (get_or (written_at at picked image) k 0 ≡ get_or image k 0) × (k < length image)
+          × (get_or (written_at at bytes file) k 0 ≡ get_or file k 0) = ⊎_elim
           (λ below. (get_or-written_below at picked image k starts below, omega arith, get_or-written_below at bytes file k parts.2 below))
-          (λ above. (get_or-written_above at picked image k starts (omega (arith, above, wide)), omega (arith, len, wide, above, l), get_or-written_above at bytes file k parts.2 above))
+          (λ above. (
+            get_or-written_above at picked image k starts (omega (arith, above, wide)),
+            omega
+                (arith, len, wide, above, l),
+            get_or-written_above at bytes file k parts.2 above,
+          ))
           (is_in-false r k out) in
           same.0 ∙ p.each k same.1
           ∙ ap (λ x. cond (in_doubt (written calls) k) (byte_picked pick k (get_or synced k 0) x) (get_or synced k 0)) (sym same.2)
@@ -144,29 +152,37 @@ picked_old rs synced file =
     sym (cond_same (in_doubt rs k) (get_or synced k 0)) ∙ sym (get_or-map-range_with_len at 0 (length synced) k k 0 l (omega arith)))
 
 -- a write among these calls begins within the image of those before it
-pub write_starts : (pick : Pick) (synced image : List ℕ) (kept : List Kept) (i : ℕ) (d : Kept) (at : ℕ) (bytes : List ℕ) → i < length kept → call_of (get_or kept i d) ≡ Wrote at bytes
+pub write_starts : (pick : Pick) (synced image : List ℕ) (kept : List Kept) (i : ℕ) (d : Kept) (at : ℕ) (bytes : List ℕ) → i < length kept
+    → call_of (get_or kept i d) ≡ Wrote at bytes
     → is_possible synced (newest_first kept) ≡ true → IsPicked pick synced (newest_first (take i kept)) image → at ≤ length image
 write_starts pick synced image kept i d at bytes l e p so_far =
     omega (arith, possible_at synced kept i d at bytes l e p, length_written synced (newest_first (take i kept)) (possible_take synced kept i p), so_far.len)
 
 -- one call more, by its kind
 
-pub picked_write : (pick : Pick) (synced image now : List ℕ) (kept : List Kept) (i : ℕ) (d : Kept) (at : ℕ) (bytes : List ℕ) → i < length kept → call_of (get_or kept i d) ≡ Wrote at bytes
-    → is_possible synced (newest_first kept) ≡ true → IsPicked pick synced (newest_first (take i kept)) image → now ≡ written_at at (picked_for pick image at bytes) image
+pub picked_write : (pick : Pick) (synced image now : List ℕ) (kept : List Kept) (i : ℕ) (d : Kept) (at : ℕ) (bytes : List ℕ) → i < length kept
+    → call_of (get_or kept i d) ≡ Wrote at bytes
+    → is_possible synced (newest_first kept) ≡ true → IsPicked pick synced (newest_first (take i kept)) image
+    → now ≡ written_at at (picked_for pick image at bytes) image
     → IsPicked pick synced (newest_first (take (i + 1) kept)) now
 picked_write pick synced image now kept i d at bytes l e possible so_far is =
     let upto = newest_first-more kept i d l ∙ ap (λ c. c ∷ newest_first (take i kept)) e in
-    let here : is_possible synced (Wrote at bytes ∷ newest_first (take i kept)) ≡ true = sym (ap (λ cs. is_possible synced cs) upto) ∙ possible_take synced kept (i + 1) possible in
+    let here : is_possible synced (Wrote at bytes ∷ newest_first (take i kept)) ≡ true = sym (ap (λ cs. is_possible synced cs) upto)
+    ∙ possible_take synced kept (i + 1) possible in
     subst (λ cs. IsPicked pick synced cs now) (sym upto)
-    (subst (λ f. IsPicked pick synced (Wrote at bytes ∷ newest_first (take i kept)) f) (sym is) (IsPicked-write pick synced (newest_first (take i kept)) image at bytes here so_far))
+    (subst (λ f. IsPicked pick synced (Wrote at bytes ∷ newest_first (take i kept)) f) (sym is)
+    (IsPicked-write pick synced (newest_first (take i kept)) image at bytes here so_far))
 
-other_call : (pick : Pick) (synced image : List ℕ) (calls : List Call) (call : Call) → ((at : ℕ) (bytes : List ℕ) → call ≡ Wrote at bytes → ⊥) → IsPicked pick synced calls image
+other_call : (pick : Pick) (synced image : List ℕ) (calls : List Call) (call : Call) → ((at : ℕ) (bytes : List ℕ) → call ≡ Wrote at bytes → ⊥)
+    → IsPicked pick synced calls image
     → IsPicked pick synced (call ∷ calls) image
 other_call pick synced image calls (Wrote at bytes) not p = absurd (not at bytes refl)
 other_call pick synced image calls Synced not p = record { len = p.len; each = p.each }
 other_call pick synced image calls (Put piece) not p = record { len = p.len; each = p.each }
 
-pub picked_other : (pick : Pick) (synced image : List ℕ) (kept : List Kept) (i : ℕ) (d : Kept) → i < length kept → ((at : ℕ) (bytes : List ℕ) → call_of (get_or kept i d) ≡ Wrote at bytes → ⊥)
+pub picked_other : (pick : Pick) (synced image : List ℕ) (kept : List Kept) (i : ℕ) (d : Kept) → i < length kept
+    → ((at : ℕ) (bytes : List ℕ) → call_of (get_or kept i d) ≡ Wrote at bytes → ⊥)
     → IsPicked pick synced (newest_first (take i kept)) image → IsPicked pick synced (newest_first (take (i + 1) kept)) image
 picked_other pick synced image kept i d l not so_far =
-    subst (λ cs. IsPicked pick synced cs image) (sym (newest_first-more kept i d l)) (other_call pick synced image (newest_first (take i kept)) (call_of (get_or kept i d)) not so_far)
+    subst (λ cs. IsPicked pick synced cs image) (sym (newest_first-more kept i d l))
+    (other_call pick synced image (newest_first (take i kept)) (call_of (get_or kept i d)) not so_far)

@@ -46,7 +46,8 @@ may_write writes i place piece old now w inside t written x told =
 
 -- one write more was made
 pub written_more : (writes : List Write) (i place : ℕ) (piece : List ℕ) (old mid new : Option (List ℕ)) → IsWrite writes i place piece
-    → mid ≡ option_map (with_writes (take i writes)) old → new ≡ option_map (written_at place piece) mid → new ≡ option_map (with_writes (take (i + 1) writes)) old
+    → mid ≡ option_map (with_writes (take i writes)) old → new ≡ option_map (written_at place piece) mid
+    → new ≡ option_map (with_writes (take (i + 1) writes)) old
 unfolding nth
 written_more writes i place piece None mid new w p q = q ∙ ap (option_map (written_at place piece)) p
 written_more writes i place piece (Some f) mid new w p q =

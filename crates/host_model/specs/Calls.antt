@@ -69,4 +69,5 @@ pub record LeftAfter (origin : Left) (calls : List Call) (running : Option Call)
 abbrev pub LeftSince : Left → List Call → ℕ → Left → Type 0
 LeftSince origin [] t c = (t ≤ 0) × LeftAfter origin [] None c
 LeftSince origin (call ∷ calls) t c =
-    ((t ≤ length calls + 1) × LeftAfter origin (call ∷ calls) None c) ⊎ (((t ≤ length calls) × LeftAfter origin calls (Some call) c) ⊎ LeftSince origin calls t c)
+    ((t ≤ length calls + 1) × LeftAfter origin (call ∷ calls) None c) ⊎ (((t ≤ length calls) × LeftAfter origin calls (Some call) c)
+    ⊎ LeftSince origin calls t c)

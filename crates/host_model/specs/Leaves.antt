@@ -9,7 +9,8 @@ pub leaves_start : (h : Shown) (P : Left → Type 0) → LeavesOnly h h P
 leaves_start h P = record { tells = refl; later = omega arith; during = λ t c le left. inl left }
 
 -- One call leaves only P, where each pair that its effect leads to has P.
-pub leaves_by_call : (effect : Left → Left → Type 0) (old new : Shown) (P : Left → Type 0) → Goes effect old new → ((c : Left) → Reached effect old.may_leave c → P c) → LeavesOnly old new P
+pub leaves_by_call : (effect : Left → Left → Type 0) (old new : Shown) (P : Left → Type 0) → Goes effect old new
+    → ((c : Left) → Reached effect old.may_leave c → P c) → LeavesOnly old new P
 leaves_by_call effect old new P goes has = record {
   tells = goes.tells;
   later = goes.later;
@@ -30,7 +31,12 @@ leaves_then old mid new P first next = record {
 
 -- A run that leaves only P leaves only Q, where P implies Q.
 pub leaves_weaker : (old new : Shown) (P Q : Left → Type 0) → ((c : Left) → P c → Q c) → LeavesOnly old new P → LeavesOnly old new Q
-leaves_weaker old new P Q so run = record { tells = run.tells; later = run.later; during = λ t c le left. ⊎_elim (λ before. inl before) (λ p. inr (so c p)) (run.during t c le left) }
+leaves_weaker old new P Q so run = record {
+  tells = run.tells;
+  later = run.later;
+  during = λ t c le left. ⊎_elim (λ before. inl before) (λ p. inr (so c p))
+      (run.during t c le left);
+}
 
 -- While a sync runs, and after it, a stop leaves only what it left before.
 pub stays_was_left : (before : Left → Type 0) (c : Left) → Reached Stays before c → before c
@@ -42,7 +48,8 @@ pub torn_from_settled : (ranges : List Range) (h : Shown) (f : List ℕ) (c : Le
 torn_from_settled ranges h f c settled told r = subst (λ i. IsImage ranges i c.image) (settled r.start r.was_left f told) r.done.image
 
 -- Writes leave the output that was said.
-pub output_from_tears : (ranges : List Range) (h : Shown) (o : List ℕ) (c : Left) → IsCoherent h → h.said ≡ Some o → Reached (TearsIn ranges) h.may_leave c → c.output ≡ o
+pub output_from_tears : (ranges : List Range) (h : Shown) (o : List ℕ) (c : Left) → IsCoherent h → h.said ≡ Some o → Reached (TearsIn ranges) h.may_leave c
+    → c.output ≡ o
 output_from_tears ranges h o c coherent told r = r.done.output ∙ coherent.outputs r.start r.was_left o told
 
 -- What a stop leaves after a run was left at its start, or has P.

@@ -16,7 +16,8 @@ pub record Moment : Type 0 where
 abbrev pub moment : ℕ → List Call → Moment
 moment n [] = record { made = []; running = None }
 moment n (call ∷ calls) =
-    if nat_lt (length calls) n then record { made = call ∷ calls; running = None } else (if n == length calls then record { made = calls; running = Some call } else moment n calls)
+    if nat_lt (length calls) n then record { made = call ∷ calls; running = None } else
+    (if n == length calls then record { made = calls; running = Some call } else moment n calls)
 
 -- the calls with the one that goes on
 abbrev pub onto : Option Call → List Call → List Call
@@ -41,7 +42,8 @@ length_picked (Mix number) least greatest = greatest
 -- The image: outside the ranges as last synced, inside as picked. An old byte past the old end is 0.
 abbrev pub picked_image : Pick → List Range → List ℕ → List ℕ → List ℕ
 picked_image pick ranges synced file =
-    map (λ k. if in_doubt ranges k then byte_picked pick k (slice_index synced k) (slice_index file k) else slice_index synced k) (range_with_len 0 (length_picked pick (length synced) (furthest (length synced) ranges)))
+    map (λ k. if in_doubt ranges k then byte_picked pick k (slice_index synced k) (slice_index file k) else slice_index synced k)
+    (range_with_len 0 (length_picked pick (length synced) (furthest (length synced) ranges)))
 
 abbrev pub image_at : Pick → List ℕ → Moment → List ℕ
 image_at pick first m =

@@ -20,7 +20,8 @@ use Rattle.host_model.specs.declared.restart.Pick.TheVariants.{Old, New, Fill, M
 abbrev pub LeftAt : ℕ → MemHostState → Left → Type 0
 LeftAt n h c = let m = moment n h.calls in LeftAfter h.origin m.made m.running c
 
-length_picked-bounds : (pick : Pick) (least greatest : ℕ) → least ≤ greatest → (least ≤ length_picked pick least greatest) × (length_picked pick least greatest ≤ greatest)
+length_picked-bounds : (pick : Pick) (least greatest : ℕ) → least ≤ greatest → (least ≤ length_picked pick least greatest)
+    × (length_picked pick least greatest ≤ greatest)
 length_picked-bounds Old least greatest l = (omega arith, l)
 length_picked-bounds New least greatest l = (l, omega arith)
 length_picked-bounds (Fill byte) least greatest l = (l, omega arith)
@@ -39,7 +40,8 @@ picked_image-left pick rs synced file p gapless =
     record {
       differs = record {
         outside = λ k e. ⊎_elim
-            (λ b. get_same image synced k (omega (arith, len)) (gapless k (omega (arith, bounds.1)) e) (here k b ∙ cond-false (in_doubt rs k) (byte_picked pick k (get_or synced k 0) (get_or file k 0)) (get_or synced k 0) e))
+            (λ b. get_same image synced k (omega (arith, len)) (gapless k (omega (arith, bounds.1)) e) (here k b
+            ∙ cond-false (in_doubt rs k) (byte_picked pick k (get_or synced k 0) (get_or file k 0)) (get_or synced k 0) e))
             (λ b. get_past image synced k (omega (arith, len)) (omega (arith, bounds.0)))
             (cases_lt k n);
         no_shorter = omega (arith, len, bounds.0);
@@ -65,30 +67,36 @@ possible_tail file Synced calls p = p
 possible_tail file (Put piece) calls p = p
 
 -- the calls of a moment are possible where all are
-pub moment-possible : (file : List ℕ) (n : ℕ) (calls : List Call) → is_possible file calls ≡ true → is_possible file (onto (moment n calls).running (moment n calls).made) ≡ true
+pub moment-possible : (file : List ℕ) (n : ℕ) (calls : List Call) → is_possible file calls ≡ true
+    → is_possible file (onto (moment n calls).running (moment n calls).made) ≡ true
 moment-possible file n [] p = p
 moment-possible file n (call ∷ calls) p = ⊎_elim
     (λ same. let m = moment-at n call calls same in subst (λ m. is_possible file (onto m.running m.made) ≡ true) (sym m) p)
     (λ apart. ⊎_elim
-    (λ before. subst (λ m. is_possible file (onto m.running m.made) ≡ true) (sym (moment-before n call calls before)) (moment-possible file n calls (possible_tail file call calls p)))
+    (λ before. subst (λ m. is_possible file (onto m.running m.made) ≡ true) (sym (moment-before n call calls before))
+    (moment-possible file n calls (possible_tail file call calls p)))
     (λ after. subst (λ m. is_possible file (onto m.running m.made) ≡ true) (sym (moment-past n call calls after)) p)
     apart)
     (cases_order n (length calls))
 
 -- the output that is picked, where the call in progress says no piece
-output_still : (pick : Pick) (first : List ℕ) (made : List Call) (running : Option Call) → said_after first (onto running made) ≡ said_after first made → IsGrown [] (said_after first made) (output_at pick first (record { made = made; running = running }))
+output_still : (pick : Pick) (first : List ℕ) (made : List Call) (running : Option Call) → said_after first (onto running made) ≡ said_after first made
+    → IsGrown [] (said_after first made) (output_at pick first (record { made = made; running = running }))
 output_still Old first made running e = grown_none (said_after first made)
 output_still New first made running e = subst (λ o. IsGrown [] (said_after first made) o) (sym e) (grown_none (said_after first made))
 output_still (Fill byte) first made running e = subst (λ o. IsGrown [] (said_after first made) o) (sym e) (grown_none (said_after first made))
 output_still (Mix number) first made running e = subst (λ o. IsGrown [] (said_after first made) o) (sym e) (grown_none (said_after first made))
 
-output_put : (pick : Pick) (first : List ℕ) (made : List Call) (piece : List ℕ) → IsGrown piece (said_after first made) (output_at pick first (record { made = made; running = Some (Put piece) }))
+output_put : (pick : Pick) (first : List ℕ) (made : List Call) (piece : List ℕ)
+    → IsGrown piece (said_after first made) (output_at pick first (record { made = made; running = Some (Put piece) }))
 output_put Old first made piece = record { count = 0; fits = omega arith; grown = sym (append-nil (said_after first made)) }
 output_put New first made piece = grown_whole piece (said_after first made)
 output_put (Fill byte) first made piece = grown_whole piece (said_after first made)
 output_put (Mix number) first made piece = grown_whole piece (said_after first made)
 
-running_left : (pick : Pick) (origin : Left) (made : List Call) (running : Option Call) → are_bytes (image_at pick origin.image (record { made = made; running = running })) ≡ true → is_possible origin.image (onto running made) ≡ true → LeftAfter origin made running (pair_at pick origin (record { made = made; running = running }))
+running_left : (pick : Pick) (origin : Left) (made : List Call) (running : Option Call)
+    → are_bytes (image_at pick origin.image (record { made = made; running = running })) ≡ true → is_possible origin.image (onto running made) ≡ true
+    → LeftAfter origin made running (pair_at pick origin (record { made = made; running = running }))
 running_left pick origin made None p possible = record {
   possible = possible;
   image = picked_image-left pick _ _ _ p (no_gap origin.image made possible);
@@ -111,16 +119,19 @@ running_left pick origin made (Some (Put piece)) p possible = record {
 }
 
 -- the image and the output of a moment are left by a stop in it
-pub pair_at-left : (pick : Pick) (origin : Left) (m : Moment) → are_bytes (image_at pick origin.image m) ≡ true → is_possible origin.image (onto m.running m.made) ≡ true → LeftAfter origin m.made m.running (pair_at pick origin m)
+pub pair_at-left : (pick : Pick) (origin : Left) (m : Moment) → are_bytes (image_at pick origin.image m) ≡ true
+    → is_possible origin.image (onto m.running m.made) ≡ true → LeftAfter origin m.made m.running (pair_at pick origin m)
 pair_at-left pick origin m p possible = running_left pick origin m.made m.running p possible
 
 -- and so by a stop since it
-pub left_in_moment : (origin : Left) (n : ℕ) (calls : List Call) (c : Left) → n ≤ length calls → LeftAfter origin (moment n calls).made (moment n calls).running c → LeftSince origin calls n c
+pub left_in_moment : (origin : Left) (n : ℕ) (calls : List Call) (c : Left) → n ≤ length calls
+    → LeftAfter origin (moment n calls).made (moment n calls).running c → LeftSince origin calls n c
 left_in_moment origin n [] c l h = (l, h)
 left_in_moment origin n (call ∷ calls) c l h = ⊎_elim
     (λ same. inr (inl (omega arith, subst (λ m. LeftAfter origin m.made m.running c) (moment-at n call calls same) h)))
     (λ apart. ⊎_elim
-    (λ before. inr (inr (left_in_moment origin n calls c (omega arith) (subst (λ m. LeftAfter origin m.made m.running c) (moment-before n call calls before) h))))
+    (λ before. inr (inr (left_in_moment origin n calls c (omega arith) (subst (λ m. LeftAfter origin m.made m.running c)
+    (moment-before n call calls before) h))))
     (λ after. inl (omega arith, subst (λ m. LeftAfter origin m.made m.running c) (moment-past n call calls after) h))
     apart)
     (cases_order n (length calls))
@@ -130,7 +141,8 @@ left_in_moment origin n (call ∷ calls) c l h = ⊎_elim
 pub restarted_since : (n : ℕ) (h new : MemHostState) → n ≤ length h.calls → LeftAt n h (pair_of new) → LeftSince h.origin h.calls n (pair_of new)
 restarted_since n h new l left = left_in_moment h.origin n h.calls (pair_of new) l left
 
-pub restarted_at : (pick : Pick) (n : ℕ) (h new : MemHostState) → are_bytes (image_at pick h.origin.image (moment n h.calls)) ≡ true → is_possible h.origin.image h.calls ≡ true → new ≡ fresh_host (pair_at pick h.origin (moment n h.calls)) [] → LeftAt n h (pair_of new)
+pub restarted_at : (pick : Pick) (n : ℕ) (h new : MemHostState) → are_bytes (image_at pick h.origin.image (moment n h.calls)) ≡ true
+    → is_possible h.origin.image h.calls ≡ true → new ≡ fresh_host (pair_at pick h.origin (moment n h.calls)) [] → LeftAt n h (pair_of new)
 restarted_at pick n h new p possible e =
     subst (λ r. LeftAt n h (pair_of r)) (sym e) (pair_at-left pick h.origin (moment n h.calls) p (moment-possible h.origin.image n h.calls possible))
 

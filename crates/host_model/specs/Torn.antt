@@ -59,10 +59,12 @@ length-written_at at bytes file l = simp (length-append, length-take, length-dro
 pub get_or-written_below : (at : ℕ) (bytes file : List ℕ) (k : ℕ) → at ≤ length file → k < at → get_or (written_at at bytes file) k 0 ≡ get_or file k 0
 get_or-written_below at bytes file k l b = grind (arith, common_steps)
 
-pub get_or-written_in : (at : ℕ) (bytes file : List ℕ) (k : ℕ) → at ≤ length file → at ≤ k → k < at + length bytes → get_or (written_at at bytes file) k 0 ≡ get_or bytes (k - at) 0
+pub get_or-written_in : (at : ℕ) (bytes file : List ℕ) (k : ℕ) → at ≤ length file → at ≤ k → k < at + length bytes
+    → get_or (written_at at bytes file) k 0 ≡ get_or bytes (k - at) 0
 get_or-written_in at bytes file k l a b = grind (arith, common_steps)
 
-pub get_or-written_above : (at : ℕ) (bytes file : List ℕ) (k : ℕ) → at ≤ length file → at + length bytes ≤ k → get_or (written_at at bytes file) k 0 ≡ get_or file k 0
+pub get_or-written_above : (at : ℕ) (bytes file : List ℕ) (k : ℕ) → at ≤ length file → at + length bytes ≤ k
+    → get_or (written_at at bytes file) k 0 ≡ get_or file k 0
 get_or-written_above at bytes file k l a = grind (arith, common_steps)
 
 -- A write changes its range alone.
@@ -95,13 +97,15 @@ DiffersIn-more r rs a b c p q = record {
 }
 
 -- A part of the old file that the ranges do not meet is as it was.
-pub outside_ranges : (ranges : List Range) (i j : ℕ) (old new : List ℕ) → DiffersIn ranges old new → j ≤ length old → ((k : ℕ) → i ≤ k → k < j → in_doubt ranges k ≡ false) → slice_range new i j ≡ slice_range old i j
+pub outside_ranges : (ranges : List Range) (i j : ℕ) (old new : List ℕ) → DiffersIn ranges old new → j ≤ length old
+    → ((k : ℕ) → i ≤ k → k < j → in_doubt ranges k ≡ false) → slice_range new i j ≡ slice_range old i j
 outside_ranges ranges i j old new d l free =
     let longer = d.no_shorter in
     ext_get_or 0 _ _ (simp (length-take, length-drop) (omega arith)) (λ k b.
     let within : i + k < j = omega (arith, simp (length-take, length-drop) at b) in
     let same = same_at new old (i + k) 0 (d.outside (i + k) (free (i + k) (omega arith) within)) (omega arith) in
-    get_or-take (j - i) (drop i new) k 0 (omega arith) ∙ get_or-drop i new k 0 ∙ same.1 ∙ sym (get_or-take (j - i) (drop i old) k 0 (omega arith) ∙ get_or-drop i old k 0))
+    get_or-take (j - i) (drop i new) k 0 (omega arith) ∙ get_or-drop i new k 0 ∙ same.1
+    ∙ sym (get_or-take (j - i) (drop i old) k 0 (omega arith) ∙ get_or-drop i old k 0))
 
 -- Each of some bytes is below 256; past their end 0 is read.
 pub are_bytes-at : (xs : List ℕ) (k : ℕ) → are_bytes xs ≡ true → get_or xs k 0 < 256
@@ -119,8 +123,10 @@ pub are_bytes-written_at : (at : ℕ) (bytes file : List ℕ) → are_bytes file
 are_bytes-written_at at bytes file f b =
     let p : ℕ → Bool = λ b. nat_lt b 256 in
     let front = (and_parts _ _ (sym (list_all-append p (take at file) (drop at file)) ∙ ap are_bytes (take-append-drop at file) ∙ f)).0 in
-    let back = (and_parts _ _ (sym (list_all-append p (take (at + length bytes) file) (drop (at + length bytes) file)) ∙ ap are_bytes (take-append-drop (at + length bytes) file) ∙ f)).1 in
-    list_all-append p (take at file ++ bytes) (drop (at + length bytes) file) ∙ and_from _ _ (list_all-append p (take at file) bytes ∙ and_from _ _ front b) back
+    let back = (and_parts _ _ (sym (list_all-append p (take (at + length bytes) file) (drop (at + length bytes) file))
+    ∙ ap are_bytes (take-append-drop (at + length bytes) file) ∙ f)).1 in
+    list_all-append p (take at file ++ bytes) (drop (at + length bytes) file)
+    ∙ and_from _ _ (list_all-append p (take at file) bytes ∙ and_from _ _ front b) back
 
 -- What differs in no range is the same.
 pub untouched : (old new : List ℕ) → DiffersIn [] old new → new ≡ old
@@ -132,7 +138,8 @@ untouched old new d =
 -- What may differ in some ranges and in one more comes from a file that differs in the others alone, by a torn write
 -- of this one. The range begins where the file may reach, and the others leave no gap.
 pub torn_last : (r : Range) (rs : List Range) (old new : List ℕ) → r.from ≤ furthest (length old) rs
-    → ((k : ℕ) → k < furthest (length old) rs → in_doubt rs k ≡ false → k < length old) → DiffersIn (r ∷ rs) old new → are_bytes old ≡ true → are_bytes new ≡ true
+    → ((k : ℕ) → k < furthest (length old) rs → in_doubt rs k ≡ false → k < length old) → DiffersIn (r ∷ rs) old new → are_bytes old ≡ true
+    → are_bytes new ≡ true
     → (mid : List ℕ) × DiffersIn rs old mid × DiffersIn (r ∷ []) mid new × (are_bytes mid ≡ true)
 torn_last r rs old new starts no_gap d bytes_old bytes_new =
     let longer = d.no_shorter in

@@ -31,4 +31,3 @@ untold_coherent f o disk out = record {
   disk_faults_fit = count_fits disk;
   out_faults_fit = count_fits out;
 }
-

@@ -10,7 +10,8 @@ use Rattle.host_model.proofs.restart.image_after.Goals as goal
 pub replay-requires : goal.replay-requires
 replay-requires c =
     let first : c.in_ok-image.image.items ≡ c.args.first.now = search rules in
-    ap (λ f. is_possible f (newest_first (take c.sync_point-since.result c.args.calls.now))) first ∙ possible_take c.args.first.now c.args.calls.now c.sync_point-since.result c.requires.possible
+    ap (λ f. is_possible f (newest_first (take c.sync_point-since.result c.args.calls.now))) first
+    ∙ possible_take c.args.first.now c.args.calls.now c.sync_point-since.result c.requires.possible
 
 pub patch-requires : goal.patch-requires
 patch-requires c =
@@ -30,5 +31,6 @@ returns c =
     c.in_ok-replay.ensures ∙ ap (λ f. file_after f (newest_first (take since c.args.calls.now))) first in
     let within : since ≤ c.args.at = omega (arith, c.sync_point-since.ensures.within, length-take-le c.args.at c.args.calls.now c.requires.within) in
     c.in_ok-patch.ensures
-    ∙ image_is c.args.pick c.args.first.now c.replay.new.file.items c.args.calls.now c.args.at c.stop_end-end.result since c.requires.within c.stop_end-end.ensures within
+    ∙ image_is c.args.pick c.args.first.now c.replay.new.file.items c.args.calls.now c.args.at c.stop_end-end.result since c.requires.within
+    c.stop_end-end.ensures within
     c.sync_point-since.ensures.unsynced (c.sync_point-since.ensures.synced c.args.first.now) synced

@@ -13,7 +13,8 @@ returns c =
     c.in_ok-say_again.ensures ∙ ap (λ f. said_after f (newest_first (take c.match-pick.end c.args.calls.now))) first
     ∙ elim c.match-pick.branch [
       | in-Old w ↦
-          ap (λ n. said_after c.args.first.now (newest_first (take n c.args.calls.now))) w.end-is ∙ output_old c.args.first.now c.args.calls.now c.args.at c.requires
+          ap (λ n. said_after c.args.first.now (newest_first (take n c.args.calls.now))) w.end-is
+          ∙ output_old c.args.first.now c.args.calls.now c.args.at c.requires
           ∙ ap (λ p. output_at p c.args.first.now (moment c.args.at (newest_first c.args.calls.now))) (sym w.in-Old.is)
       | in_default w ↦
           ap (λ n. said_after c.args.first.now (newest_first (take n c.args.calls.now))) w.end-is

@@ -25,14 +25,18 @@ returns-in-Old c =
 
 pub picked_bytes-requires : goal.picked_bytes-requires
 picked_bytes-requires c =
-    let is_write : call_of (get_or c.args.calls.now c.loop-call.call-index c.call-item.result) ≡ Wrote c.in-Write.at c.in-Write.bytes.items = ap call_of (sym c.call-item.is) ∙ ap call_of c.in-Write.is in
-    let starts = write_starts c.args.pick c.args.image.now.items c.loop-call.image.items c.args.calls.now c.loop-call.call-index c.call-item.result c.in-Write.at c.in-Write.bytes.items (omega arith) is_write c.requires c.loop-call.invariant in
+    let is_write : call_of (get_or c.args.calls.now c.loop-call.call-index c.call-item.result) ≡ Wrote c.in-Write.at c.in-Write.bytes.items =
+    ap call_of (sym c.call-item.is) ∙ ap call_of c.in-Write.is in
+    let starts = write_starts c.args.pick c.args.image.now.items c.loop-call.image.items c.args.calls.now c.loop-call.call-index c.call-item.result
+    c.in-Write.at c.in-Write.bytes.items (omega arith) is_write c.requires c.loop-call.invariant in
     omega (arith, starts, c.loop-call.image.ok, c.loop-call.image.small, c.in-Write.bytes.ok, c.in-Write.bytes.small, c.deref-in-Write.ensures.len)
 
 pub overwrite-requires : goal.overwrite-requires
 overwrite-requires c =
-    let is_write : call_of (get_or c.args.calls.now c.loop-call.call-index c.call-item.result) ≡ Wrote c.in-Write.at c.in-Write.bytes.items = ap call_of (sym c.call-item.is) ∙ ap call_of c.in-Write.is in
-    write_starts c.args.pick c.args.image.now.items c.loop-call.image.items c.args.calls.now c.loop-call.call-index c.call-item.result c.in-Write.at c.in-Write.bytes.items (omega arith) is_write c.requires c.loop-call.invariant
+    let is_write : call_of (get_or c.args.calls.now c.loop-call.call-index c.call-item.result) ≡ Wrote c.in-Write.at c.in-Write.bytes.items =
+    ap call_of (sym c.call-item.is) ∙ ap call_of c.in-Write.is in
+    write_starts c.args.pick c.args.image.now.items c.loop-call.image.items c.args.calls.now c.loop-call.call-index c.call-item.result c.in-Write.at
+    c.in-Write.bytes.items (omega arith) is_write c.requires c.loop-call.invariant
 
 pub loop-call-preserved : goal.loop-call-preserved
 loop-call-preserved c = elim c.match-call.branch [
@@ -40,20 +44,25 @@ loop-call-preserved c = elim c.match-call.branch [
       let at = w.in-Write.at in
       let bytes = w.in-Write.bytes.items in
       let image = c.loop-call.image.items in
-      let is_write : call_of (get_or c.args.calls.now c.loop-call.call-index c.call-item.result) ≡ Wrote at bytes = ap call_of (sym c.call-item.is) ∙ ap call_of w.in-Write.is in
+      let is_write : call_of (get_or c.args.calls.now c.loop-call.call-index c.call-item.result) ≡ Wrote at bytes = ap call_of (sym c.call-item.is)
+      ∙ ap call_of w.in-Write.is in
       let is_image : w.deref.result.now ≡ image = w.deref.ensures.value in
       let is_bytes : w.deref-in-Write.result.now ≡ bytes = w.deref-in-Write.ensures.value in
-      let picked : w.in_ok-picked.picked.items ≡ picked_for c.args.pick w.deref.result.now at w.deref-in-Write.result.now = w.in_ok-picked.ensures ∙ picked_for-is c.args.pick w.deref.result.now at w.deref-in-Write.result.now in
+      let picked : w.in_ok-picked.picked.items ≡ picked_for c.args.pick w.deref.result.now at w.deref-in-Write.result.now = w.in_ok-picked.ensures
+      ∙ picked_for-is c.args.pick w.deref.result.now at w.deref-in-Write.result.now in
       let patched : w.overwrite.new.file.items ≡ written_at at w.deref-in-Write-2.result.now image = search rules in
       let now : c.match-call.image.items ≡ written_at at (picked_for c.args.pick image at bytes) image =
-          ap vec_items w.image-is ∙ patched ∙ ap (λ b. written_at at b image) (w.deref-in-Write-2.ensures.value ∙ picked)
-          ∙ ap (λ i. written_at at (picked_for c.args.pick i at w.deref-in-Write.result.now) image) is_image
-          ∙ ap (λ b. written_at at (picked_for c.args.pick image at b) image) is_bytes in
-      picked_write c.args.pick c.args.image.now.items image c.match-call.image.items c.args.calls.now c.loop-call.call-index c.call-item.result at bytes (omega arith) is_write c.requires c.loop-call.invariant now
+      ap vec_items w.image-is ∙ patched ∙ ap (λ b. written_at at b image) (w.deref-in-Write-2.ensures.value ∙ picked)
+      ∙ ap (λ i. written_at at (picked_for c.args.pick i at w.deref-in-Write.result.now) image) is_image
+      ∙ ap (λ b. written_at at (picked_for c.args.pick image at b) image) is_bytes in
+      picked_write c.args.pick c.args.image.now.items image c.match-call.image.items c.args.calls.now c.loop-call.call-index c.call-item.result at bytes
+      (omega arith) is_write c.requires c.loop-call.invariant now
   | in_default-call w ↦
-      let not_write = not_a_write (get_or c.args.calls.now c.loop-call.call-index c.call-item.result) (λ x y e. w.in_default-call.not-Write x y (c.call-item.is ∙ e)) in
+      let not_write = not_a_write (get_or c.args.calls.now c.loop-call.call-index c.call-item.result)
+      (λ x y e. w.in_default-call.not-Write x y (c.call-item.is ∙ e)) in
       subst (λ v. IsPicked c.args.pick c.args.image.now.items (newest_first (take (c.loop-call.call-index + 1) c.args.calls.now)) v.items) (sym w.image-is)
-      (picked_other c.args.pick c.args.image.now.items c.loop-call.image.items c.args.calls.now c.loop-call.call-index c.call-item.result (omega arith) not_write c.loop-call.invariant)
+      (picked_other c.args.pick c.args.image.now.items c.loop-call.image.items c.args.calls.now c.loop-call.call-index c.call-item.result
+      (omega arith) not_write c.loop-call.invariant)
 ]
 
 pub returns : goal.returns

@@ -7,5 +7,7 @@ use Rattle.host_model.proofs.restart.replay.Goals as goal
 
 pub overwrite-requires : goal.overwrite-requires
 overwrite-requires c =
-    let is_write : call_of (get_or c.args.calls.now c.loop-call.call-index c.call-item.result) ≡ Wrote c.in-Write.at c.in-Write.bytes.items = ap call_of (sym c.call-item.is) ∙ ap call_of c.in-Write.is in
-    subst (λ f. c.in-Write.at ≤ length f) (sym c.loop-call.invariant) (possible_at c.args.file.now.items c.args.calls.now c.loop-call.call-index c.call-item.result c.in-Write.at c.in-Write.bytes.items (omega arith) is_write c.requires)
+    let is_write : call_of (get_or c.args.calls.now c.loop-call.call-index c.call-item.result) ≡ Wrote c.in-Write.at c.in-Write.bytes.items =
+    ap call_of (sym c.call-item.is) ∙ ap call_of c.in-Write.is in
+    subst (λ f. c.in-Write.at ≤ length f) (sym c.loop-call.invariant) (possible_at c.args.file.now.items c.args.calls.now c.loop-call.call-index
+    c.call-item.result c.in-Write.at c.in-Write.bytes.items (omega arith) is_write c.requires)

@@ -23,7 +23,8 @@ returns-in_err-write_at-clause-tearing g c =
     let writes = g.W.Writes.list c.args.writes.now in
     let is : IsWrite writes c.loop-i.i c.place.result c.bytes.result.now = record { there = omega arith; begins = c.place.ensures; has = c.bytes.ensures } in
     let e = c.in_err-write_at.ensures in
-    tearing_more (ranges_of writes) c.place.result (length c.bytes.result.now) (g.H.Host.shows c.args.host.now) (g.H.Host.shows c.loop-i.host) (g.H.Host.shows c.write_at.new.self)
+    tearing_more (ranges_of writes) c.place.result (length c.bytes.result.now) (g.H.Host.shows c.args.host.now) (g.H.Host.shows c.loop-i.host)
+    (g.H.Host.shows c.write_at.new.self)
     (is_within writes c.loop-i.i c.place.result c.bytes.result.now is) c.loop-i.invariant.tearing e.goes e.torn e.said e.reads e.never_falls e.out_faults
 
 pub loop-i-preserved : goal.loop-i-preserved
@@ -37,7 +38,9 @@ loop-i-preserved g c =
     let inside = may_write writes c.loop-i.i c.place.result c.bytes.result.now old mid is c.requires c.loop-i.invariant.tearing c.loop-i.invariant.written in
     record {
       written = written_more writes c.loop-i.i c.place.result c.bytes.result.now old.file mid.file new.file is c.loop-i.invariant.written e.written;
-      tearing = tearing_more (ranges_of writes) c.place.result (length c.bytes.result.now) old mid new (is_within writes c.loop-i.i c.place.result c.bytes.result.now is)
-          c.loop-i.invariant.tearing e.goes (changes_written c.place.result c.bytes.result.now mid.file new.file inside e.written) e.said e.reads e.never_falls e.out_faults;
+      tearing = tearing_more (ranges_of writes) c.place.result (length c.bytes.result.now) old mid new
+          (is_within writes c.loop-i.i c.place.result c.bytes.result.now is)
+          c.loop-i.invariant.tearing e.goes (changes_written c.place.result c.bytes.result.now mid.file new.file inside e.written) e.said e.reads e.never_falls
+          e.out_faults;
       clock = omega (arith, c.loop-i.invariant.clock, e.goes.by_one);
     }

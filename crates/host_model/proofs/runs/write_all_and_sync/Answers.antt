@@ -20,5 +20,6 @@ returns-clause-images g c settled f told =
     let ranges = ranges_of (g.W.Writes.list c.args.writes.now) in
     let old = g.H.Host.shows c.args.host.now in
     let new = g.H.Host.shows c.sync.new.self in
-    let tearing = tearing_synced ranges old (g.H.Host.shows c.write_all.new.host) new c.in_ok-write_all.ensures.tearing e.goes e.file e.said e.reads e.never_falls e.out_faults in
+    let tearing = tearing_synced ranges old (g.H.Host.shows c.write_all.new.host) new c.in_ok-write_all.ensures.tearing e.goes e.file e.said e.reads
+    e.never_falls e.out_faults in
     images_of_writes ranges old new f (g.met.H.Host.coherent c.args.host.now) settled told tearing.leaves

@@ -9,4 +9,5 @@ pub invariant_of-self-2 : goal.invariant_of-self-2
 invariant_of-self-2 c =
     let last : Kept = Write c.args.at c.in_ok-bytes_kept.bytes_kept in
     let is_new : c.push.new.self.items ≡ c.self.inside.calls.items ++ last ∷ [] = search rules in
-    IsKept-write _ _ c.self.inside.calls.items _ last c.args.at c.args.bytes.now c.self.inside.file.items _ _ c.self.invariant (search rules) is_new (search rules) (are_bytes-fit c.args.bytes.now c.type_inv.bytes) (search rules)
+    IsKept-write _ _ c.self.inside.calls.items _ last c.args.at c.args.bytes.now c.self.inside.file.items _ _ c.self.invariant (search rules) is_new
+    (search rules) (are_bytes-fit c.args.bytes.now c.type_inv.bytes) (search rules)
