@@ -1,22 +1,30 @@
+-- The definitions of this crate, one file for each idea.
+
+-- What the public contracts cite: what is read, what a host shows and what its calls do, runs of calls, and the states of
+-- the sources and hosts of this crate.
 pub mod Counts
 pub mod Source
-pub mod MemSource
 pub mod Disk
-pub mod Torn
 pub mod Host
-pub mod Calls
-pub mod Log
-pub mod Restart
-pub mod MemHost
-pub mod CallLaws
-pub mod RestartLaws
-pub mod Untold
-pub mod FileHost
-pub mod FuseHost
-pub mod PerfectHost
-pub mod Leaves
+pub mod Writes
 pub mod Tearing
 pub mod Images
-pub mod Writes
-pub mod WritesLaws
+pub mod Calls
+pub mod MemSource
+pub mod MemHost
+pub mod FuseHost
+pub mod PerfectHost
 pub mod StdSource
+pub mod FileHost
+pub mod Untold
+pub mod Restart
+
+-- What only contracts inside the crate cite.
+pub mod Log
+
+-- Lemmas: on files, writes and runs, for the crates above too, and on the calls and the restarts of a host in memory.
+pub mod Torn
+pub mod WritesLaws
+pub mod Leaves
+pub mod CallLaws
+pub mod RestartLaws
