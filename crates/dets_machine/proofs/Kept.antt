@@ -6,6 +6,7 @@ use Rattle.dets_term.specs.TermValue.{TermValue, key, depth}
 use Rattle.dets_term.specs.Parts.{deepest, deepest-push}
 use Rattle.dets_term.specs.Same.{equal_from_same}
 use Rattle.table_model.specs.Table.{has_key, is_key, shares_key, with_object}
+use Rattle.table_model.specs.Sets.{one_object}
 use Rattle.dets_machine.specs.Objects.{AreOfSet}
 
 both_longer : (b : Bool) (x : TermValue) (xs ys : List TermValue) → length xs ≤ length ys → length (cond b (x ∷ xs) xs) ≤ length (cond b (x ∷ ys) ys)
@@ -45,15 +46,6 @@ AreOfSet-filter p xs set = record {
   one_of_a_key = λ k. let less = length-filter_filter (has_key 1 k) p xs in let one = set.one_of_a_key k in omega arith;
 }
 
-others_by : (p : TermValue → Bool) (b : Bool) (y : TermValue) (kept : List TermValue) → p y ≡ b → filter p kept ≡ [] → filter p (cond (not b) (y ∷ kept) kept) ≡ []
-others_by p true y kept e h = h
-others_by p false y kept e h = ap (λ b. cond b (y ∷ filter p kept) (filter p kept)) e ∙ h
-
--- none passes of those that do not
-filter_others : (p : TermValue → Bool) (xs : List TermValue) → filter p (filter (λ x. not (p x)) xs) ≡ []
-filter_others p [] = refl
-filter_others p (y ∷ xs) = others_by p (p y) y (filter (λ x. not (p x)) xs) refl (filter_others p xs)
-
 key_here : (k : TermValue) (found : Option TermValue) → is_key k found ≡ true → found ≡ Some k
 key_here k None e = cc
 key_here k (Some j) e = ap Some (equal_from_same j k e)
@@ -64,13 +56,9 @@ one_more p xs o b e =
     ∙ ap (λ c. length (filter p xs) + length (cond c (o ∷ []) [])) e
 
 -- the objects of any key after one is inserted
-one_of_a_key-with_object : (xs : List TermValue) (o k : TermValue) (b : Bool) → has_key 1 k o ≡ b → length (filter (has_key 1 k) xs) ≤ 1 → length (filter (has_key 1 k) (with_object Set 1 xs o)) ≤ 1
-one_of_a_key-with_object xs o k true e one =
-    let none : filter (has_key 1 k) (filter (λ other. not (shares_key 1 (key o 1) other)) xs) ≡ [] =
-    ap (λ (j : Option TermValue). filter (has_key 1 k) (filter (λ other. not (shares_key 1 j other)) xs)) (key_here k (key o 1) e) ∙ filter_others (has_key 1 k) xs in
-    let more = one_more (has_key 1 k) (filter (λ other. not (shares_key 1 (key o 1) other)) xs) o true e in
-    let zero_here = ap length none in
-    omega arith
+one_of_a_key-with_object : (xs : List TermValue) (o k : TermValue) (b : Bool) → has_key 1 k o ≡ b → length (filter (has_key 1 k) xs) ≤ 1
+    → length (filter (has_key 1 k) (with_object Set 1 xs o)) ≤ 1
+one_of_a_key-with_object xs o k true e one = omega (arith, ap length (one_object 1 xs o k (key_here k (key o 1) e)))
 one_of_a_key-with_object xs o k false e one =
     let more = one_more (has_key 1 k) (filter (λ other. not (shares_key 1 (key o 1) other)) xs) o false e in
     let less = length-filter_filter (has_key 1 k) (λ other. not (shares_key 1 (key o 1) other)) xs in

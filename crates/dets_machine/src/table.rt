@@ -2,6 +2,7 @@
 //! file takes its place.
 ghost use Rattle.std.specs.Prelude.{◌≡◌, ◌≤◌, [], length, filter, not, IfOk, OnOk};
 ghost use Rattle.dets_term.specs.TermValue.{depth, key};
+ghost use Rattle.dets_term.specs.Sorted.{ascending};
 ghost use Rattle.dets_term.specs.Parts.{deepest};
 ghost use Rattle.dets_term.specs.declared.kind.Kind.TheVariants.{Set};
 ghost use Rattle.table_model.specs.Table.{has_key, shares_key, with_object};
@@ -46,7 +47,7 @@ impl Table {
 
     /// The objects of a key: none or one.
     pub(crate) fn lookup(&self, alloc: Global, key: &Term) -> Result<TermList, Memory>
-        ensures found { IfOk result (λ found. found ≡ filter (has_key KEYPOS key.now) self.now) }
+        ensures found { IfOk result (λ found. found ≡ ascending (filter (has_key KEYPOS key.now) self.now)) }
         ensures few { IfOk result (λ found. length found ≤ 1) }
         ensures shallow { IfOk result (λ found. deepest found ≤ 255) }
     {

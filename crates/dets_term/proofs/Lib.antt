@@ -1,12 +1,11 @@
 -- Lemmas that several proofs share.
-pub mod Adjacent
 pub mod Chains
 pub mod Cleared
 pub mod Limited
 pub mod MapBuilt
 pub mod NodeKinds
 pub mod PairParts
-pub mod PairSorts
+pub mod KeysAscend
 pub mod Texts
 pub mod Fronts
 pub mod BitOrder

@@ -8,7 +8,7 @@ use Rattle.dets_term.specs.TermValue.{TermValue, map_of, parts_depth}
 use Rattle.dets_term.specs.IsTerm.{AreAscending, limited, built}
 use Rattle.dets_term.specs.Pairs.{keys, by_key, repeats, map_built}
 use Rattle.dets_term.proofs.Limited.{limited_ok, built_ok, built_err}
-use Rattle.dets_term.proofs.PairSorts.{ascending_is_by_key}
+use Rattle.dets_term.specs.PairSorts.{ascending_is_by_key}
 
 abbrev Pair : Type 0
 Pair = TermValue × TermValue

@@ -9,7 +9,11 @@ pub mod TermCode
 pub mod IsTerm
 pub mod BitString
 pub mod Node
+pub mod Sorted
+pub mod Adjacent
+pub mod Sorting
 pub mod Pairs
+pub mod PairSorts
 pub mod Hash
 pub mod Parts
 pub mod PairFalls

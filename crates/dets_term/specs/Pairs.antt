@@ -2,11 +2,11 @@
 -- their order, and has each key once, as in the reference manual's chapter on maps.
 use Rattle.std.specs.Prelude.{◌^◌, Bool, false, cond, ◌&&◌, ◌||◌, nat_lt, List, [], ◌∷◌, map, length, Result, Err}
 use Rattle.std.specs.List.{list_any}
-use Rattle.std.specs.Ordering.{is_lt}
 use Rattle.dets_term.specs.declared.term.TermFault.{TermFault}
 use Rattle.dets_term.specs.declared.term.TermFault.TheVariants.{RepeatedKey}
 use Rattle.dets_term.specs.TermValue.{TermValue, map_of}
-use Rattle.dets_term.specs.Order.{order, is_same}
+use Rattle.dets_term.specs.Order.{is_same}
+use Rattle.dets_term.specs.Sorted.{placed_by, sorted_by}
 use Rattle.dets_term.specs.IsTerm.{built}
 
 abbrev pub keys : List (TermValue × TermValue) → List TermValue
@@ -14,13 +14,11 @@ keys pairs = map (λ p. p.0) pairs
 
 -- a pair in front of the first one with a greater key
 abbrev pub placed : (TermValue × TermValue) → List (TermValue × TermValue) → List (TermValue × TermValue)
-placed p [] = p ∷ []
-placed p (q ∷ qs) = cond (is_lt (order p.0 q.0)) (p ∷ q ∷ qs) (q ∷ placed p qs)
+placed pair pairs = placed_by (λ p. p.0) pair pairs
 
 -- some pairs by ascending key
 abbrev pub by_key : List (TermValue × TermValue) → List (TermValue × TermValue)
-by_key [] = []
-by_key (p ∷ ps) = placed p (by_key ps)
+by_key pairs = sorted_by (λ p. p.0) pairs
 
 -- whether one of these terms stands in them twice
 abbrev pub repeats : List TermValue → Bool

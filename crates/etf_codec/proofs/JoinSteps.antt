@@ -7,7 +7,7 @@ use Rattle.std.proofs.lemmas.List.Sorted.{IsPermutation-refl}
 use Rattle.dets_term.specs.TermValue.{TermValue, tuple, nil, chain, map_of, elements, depth}
 use Rattle.dets_term.specs.IsTerm.{AreAscending}
 use Rattle.dets_term.specs.Pairs.{keys, placed, map_built}
-use Rattle.dets_term.proofs.PairSorts.{ascending_is_by_key}
+use Rattle.dets_term.specs.PairSorts.{ascending_is_by_key}
 use Rattle.dets_term.specs.Parts.{deepest, deepest-push, deepest_of_pairs}
 use Rattle.etf_codec.specs.declared.frame.Begun.{Begun}
 use Rattle.etf_codec.specs.declared.frame.Frame.{Frame}

@@ -13,7 +13,7 @@ use Rattle.dets_term.specs.OrderCode.{order_total}
 use Rattle.dets_term.specs.IsTerm.{AreAscending}
 use Rattle.dets_term.specs.Pairs.{keys, placed}
 use Rattle.dets_term.specs.Parts.{deepest, deepest_of_pairs}
-use Rattle.dets_term.proofs.PairSorts.{all_above}
+use Rattle.dets_term.specs.PairSorts.{all_above}
 use Rattle.etf_codec.specs.declared.fault.EtfFault.TheVariants.{RepeatedKey}
 use Rattle.etf_codec.specs.Format.{Format, byte, followed, tested, framed, changed, times, either}
 use Rattle.etf_codec.specs.Layout.{integers}

@@ -3,6 +3,7 @@ use Rattle.std.specs.Prelude.{ℕ, Bool, false, cond, not, List, [], ◌∷◌, 
 use Rattle.std.specs.List.{list_any}
 use Rattle.dets_term.specs.TermValue.{TermValue, key}
 use Rattle.dets_term.specs.Order.{is_same}
+use Rattle.dets_term.specs.Sorted.{ascending}
 use Rattle.dets_term.specs.declared.kind.Kind.{Kind}
 use Rattle.dets_term.specs.declared.kind.Kind.TheVariants.{Set, Bag, DuplicateBag}
 
@@ -29,9 +30,9 @@ abbrev pub shares_key : ℕ → Option TermValue → TermValue → Bool
 shares_key keypos None object = false
 shares_key keypos (Some k) object = has_key keypos k object
 
--- the objects of a key
+-- the objects of a key, ascending
 abbrev pub objects_of : Table → TermValue → List TermValue
-objects_of table k = filter (has_key table.keypos k) table.objects
+objects_of table k = ascending (filter (has_key table.keypos k) table.objects)
 
 -- The objects after one is inserted: in a set it takes the place of the one with its key, in a bag it is added
 -- unless it is there already, and in a duplicate bag it is added.

@@ -2,7 +2,7 @@
 //! makes of them. It stands on `dets_term`, promises laws of these definitions, and compares them with worked rows.
 #![tactic(auto)]
 
-pub use laws::a_set_has_one_object_of_a_key;
+pub use laws::{a_set_has_one_object_of_a_key, the_objects_of_a_key_ascend};
 
 mod laws;
 pub mod rows;

@@ -2,7 +2,7 @@
 ghost use Rattle.std.specs.Prelude.{◌≡◌, [], ◌∷◌, true, false};
 ghost use Rattle.dets_term.specs.TermValue.{nil};
 ghost use Rattle.dets_term.specs.Written.{word, number, tuple_of, list_of, pair};
-ghost use Rattle.dets_term.specs.declared.kind.Kind.TheVariants.{Set};
+ghost use Rattle.dets_term.specs.declared.kind.Kind.TheVariants.{Set, Bag, DuplicateBag};
 ghost use Rattle.table_model.specs.Table.{empty_table, has_key, objects_of};
 ghost use Rattle.table_model.specs.Filled.{filled, numbered_set, second_place_set, small_bag, small_duplicate_bag};
 
@@ -21,6 +21,22 @@ pub fn a_bag_keeps_each_object_once()
 /// `{a,1}` and `{a,1}` again: each object is added.
 pub fn a_duplicate_bag_keeps_equal_objects()
     ensures { objects_of small_duplicate_bag (word "a") ≡ pair (word "a") (number 1) ∷ pair (word "a") (number 1) ∷ [] }
+{}
+
+/// `{a,2}` and then `{a,1}`: the objects of a key ascend, in whatever order they were inserted.
+pub fn the_objects_of_a_key_ascend_in_a_bag()
+    ensures bag { objects_of (filled Bag 1 (pair (word "a") (number 2) ∷ pair (word "a") (number 1) ∷ [])) (word "a")
+        ≡ pair (word "a") (number 1) ∷ pair (word "a") (number 2) ∷ [] }
+    ensures other_keys_between { objects_of (filled Bag 1 (pair (word "a") (number 2) ∷ pair (word "b") (number 3) ∷ pair (word "a") (number 1) ∷ [])) (word "a")
+        ≡ pair (word "a") (number 1) ∷ pair (word "a") (number 2) ∷ [] }
+    ensures smaller_tuple_first { objects_of (filled Bag 1 (tuple_of (word "a" ∷ number 1 ∷ number 1 ∷ []) ∷ pair (word "a") (word "z") ∷ [])) (word "a")
+        ≡ pair (word "a") (word "z") ∷ tuple_of (word "a" ∷ number 1 ∷ number 1 ∷ []) ∷ [] }
+{}
+
+/// `{a,2}`, `{a,1}` and `{a,2}` again: equal objects stand next to each other.
+pub fn the_objects_of_a_key_ascend_in_a_duplicate_bag()
+    ensures { objects_of (filled DuplicateBag 1 (pair (word "a") (number 2) ∷ pair (word "a") (number 1) ∷ pair (word "a") (number 2) ∷ [])) (word "a")
+        ≡ pair (word "a") (number 1) ∷ pair (word "a") (number 2) ∷ pair (word "a") (number 2) ∷ [] }
 {}
 
 /// `{1,a}`, `{1,b}` and then `{2,a}` in a set whose key is the second element.

@@ -3,7 +3,7 @@ use Rattle.std.proofs.lemmas.List.Sorted.{answers_always}
 use Rattle.dets_term.specs.Order.{order}
 use Rattle.dets_term.specs.IsTerm.{AreAscending}
 use Rattle.dets_term.specs.Pairs.{keys}
-use Rattle.dets_term.proofs.PairSorts.{ascend_answer}
+use Rattle.dets_term.proofs.KeysAscend.{ascend_answer}
 use Rattle.dets_term.proofs.pair_list.PairList.keys_ascend.Goals as goal
 
 pub returns : goal.returns

@@ -7,7 +7,8 @@ use Rattle.dets_term.specs.Pairs.{keys}
 use Rattle.dets_term.specs.Parts.{parts_depth-map_of}
 use Rattle.dets_term.proofs.Limited.{limited_ok}
 use Rattle.dets_term.proofs.PairParts.{IsBounded-map_of}
-use Rattle.dets_term.proofs.PairSorts.{in_order_from_sort, repeats_unless_ascending}
+use Rattle.dets_term.specs.Sorting.{in_order_from_sort}
+use Rattle.dets_term.specs.PairSorts.{repeats_unless_ascending}
 use Rattle.dets_term.proofs.MapBuilt.{map_repeated, map_ok, map_err}
 use Rattle.dets_term.proofs.term.Term.map.Goals as goal
 use Rattle.dets_term.proofs.term.Term.map.Goals.{else-len-le-MAX_PARTS-via-then-len-le-MAX_PARTS+else-not-keys_ascend, else-len-le-MAX_PARTS-via-else-len-le-MAX_PARTS}
@@ -16,7 +17,7 @@ pub returns-then-not-keys_ascend : goal.returns-then-not-keys_ascend
 returns-then-not-keys_ascend c =
     let moved = c.sort_by_key.ensures.permutation in
     let size : c.len.result ≡ length c.args.pairs = c.len.ensures ∙ length_permutation _ _ moved in
-    let in_order = in_order_from_sort _ c.sort_by_key.ensures.sorted in
+    let in_order = in_order_from_sort (λ p. p.0) _ c.sort_by_key.ensures.sorted in
     let down : AreAscending (keys c.sort_by_key.new.self) → ⊥ = λ up. let yes = c.keys_ascend.ensures.1 up in let no' = c.if-not-keys_ascend.true in cc in
     map_repeated c.args.pairs (omega (arith, c.if-len-le-MAX_PARTS.true)) (repeats_unless_ascending _ _ moved in_order down)
 

@@ -1,20 +1,21 @@
--- Pairs in order by their keys.
-use Rattle.std.proofs.Common.{◌≡◌, ℕ, zero, suc, ◌<◌, Bool, true, false, cond, List, [], ◌∷◌, ◌⊎◌, ◌↔◌, IsTrue, inl, inr, length, get_or, refl, ap, ◌∙◌, sym, subst, arith}
-use Rattle.std.specs.List.{list_any, AllByRecursion, IsDistinct, IsAllAdjacentAnswer}
-use Rattle.std.specs.List.Sorted.{IsPermutation, IsSortedByKey}
+-- Lemmas: pairs in order by their keys.
+use Rattle.std.proofs.Common.{◌≡◌, ℕ, zero, suc, ◌<◌, true, false, List, [], ◌∷◌, ◌⊎◌, inl, inr, length, get_or, refl, ap, ◌∙◌, sym, subst, arith}
+use Rattle.std.specs.List.{list_any, AllByRecursion, IsDistinct}
+use Rattle.std.specs.List.Sorted.{IsPermutation}
 use Rattle.std.specs.declared.cmp.Ordering.{Ordering}
 use Rattle.std.specs.declared.cmp.Ordering.TheVariants.{Less, Equal, Greater}
 use Rattle.std.specs.Ordering.{is_lt, is_eq, ordering_reverse}
 use Rattle.std.proofs.lemmas.Bool.{or_parts, or_from, true_from_ne_false}
 use Rattle.std.proofs.lemmas.List.Elements.{recursion_from_All}
-use Rattle.std.proofs.lemmas.List.Sorted.{IsPermutation-refl, IsPermutation-sym, IsPermutation-trans, IsPermutation-cons, IsPermutation-middle, IsPermutation-map, All-permutation}
+use Rattle.std.proofs.lemmas.List.Sorted.{IsPermutation-sym, IsPermutation-trans, IsPermutation-map, All-permutation}
 use Rattle.std.proofs.lemmas.Map.Keys.{IsDistinct-IsPermutation}
-use Rattle.dets_term.specs.TermValue.{TermValue, nil}
+use Rattle.dets_term.specs.TermValue.{TermValue}
 use Rattle.dets_term.specs.Order.{order, is_same}
 use Rattle.dets_term.specs.OrderCode.{order_total}
 use Rattle.dets_term.specs.IsTerm.{Precedes, AreAscending}
-use Rattle.dets_term.specs.Pairs.{keys, placed, by_key, repeats}
-use Rattle.dets_term.proofs.Adjacent.{Starts, Adjacent, adjacent_from_places, places_from_adjacent}
+use Rattle.dets_term.specs.Pairs.{keys, by_key, repeats}
+use Rattle.dets_term.specs.Adjacent.{Adjacent}
+use Rattle.dets_term.specs.Sorting.{Follows, IsPermutation-sorted_by, Adjacent-sorted_by}
 
 abbrev Pair : Type 0
 Pair = TermValue × TermValue
@@ -26,61 +27,12 @@ is_eq-reverse Less = refl
 is_eq-reverse Equal = refl
 is_eq-reverse Greater = refl
 
-less-reverse : (r s : Ordering) → s ≡ ordering_reverse r → r ≡ Less → is_lt s ≡ false
-less-reverse Less s e l = ap is_lt e
-less-reverse Equal s e l = cc
-less-reverse Greater s e l = cc
-
 less-from : (r s : Ordering) → s ≡ ordering_reverse r → is_lt s ≡ false → is_eq r ≡ false → r ≡ Less
 less-from Less s e l q = refl
 less-from Equal s e l q = cc
 less-from Greater s e l q = let less : is_lt s ≡ true = ap is_lt e in cc
 
-less-is : (r : Ordering) → is_lt r ≡ true → r ≡ Less
-less-is Less e = refl
-less-is Equal e = cc
-less-is Greater e = cc
-
--- ---- what `is_sorted_by` answers of the keys
-
--- a pair's key is less than the next one's
-abbrev Below : Pair → Pair → Type 0
-Below p q = order p.0 q.0 ≡ Less
-
-AreAscending-from : (qs : List Pair) → Adjacent Below qs → AreAscending (keys qs)
-AreAscending-from [] a = tt
-AreAscending-from (q ∷ []) a = (tt, tt)
-AreAscending-from (q ∷ r ∷ qs) a = (a.0, AreAscending-from (r ∷ qs) a.1)
-
-Adjacent-from : (qs : List Pair) → AreAscending (keys qs) → Adjacent Below qs
-Adjacent-from [] a = tt
-Adjacent-from (q ∷ []) a = (tt, tt)
-Adjacent-from (q ∷ r ∷ qs) a = (a.0, Adjacent-from (r ∷ qs) a.1)
-
-pub ascend_answer : (qs : List Pair) (b : Bool) → IsAllAdjacentAnswer (λ p q c. c ≡ is_lt (order p.0 q.0)) qs b → IsTrue b ↔ AreAscending (keys qs)
-ascend_answer qs true a = (λ _. AreAscending-from qs (adjacent_from_places Below qs (λ k d l. less-is _ (sym (a k d l)))), λ _. refl)
-ascend_answer qs false a = (
-  λ e. absurd (let none : false ≡ true = e in cc),
-  λ up. let less = places_from_adjacent Below qs (Adjacent-from qs up) a.0 (nil, nil) a.1 in a.2 (nil, nil) ∙ ap is_lt less,
-)
-
 -- ---- each key stays where keys change places
-
--- a pair's key is not greater than the next one's
-abbrev pub Follows : Pair → Pair → Type 0
-Follows p q = is_lt (order q.0 p.0) ≡ false
-
-pub IsPermutation-placed : (p : Pair) (qs : List Pair) → IsPermutation (p ∷ qs) (placed p qs)
-IsPermutation-placed p [] = IsPermutation-refl (p ∷ [])
-IsPermutation-placed p (q ∷ qs) =
-    elim (is_lt (order p.0 q.0)) as (λ b. IsPermutation (p ∷ q ∷ qs) (cond b (p ∷ q ∷ qs) (q ∷ placed p qs))) [
-      | true ↦ IsPermutation-refl (p ∷ q ∷ qs)
-      | false ↦ IsPermutation-trans _ (q ∷ p ∷ qs) _ (IsPermutation-middle (p ∷ []) q qs) (IsPermutation-cons q _ _ (IsPermutation-placed p qs))
-    ]
-
-pub IsPermutation-by_key : (ps : List Pair) → IsPermutation ps (by_key ps)
-IsPermutation-by_key [] = IsPermutation-refl []
-IsPermutation-by_key (p ∷ ps) = IsPermutation-trans _ (p ∷ by_key ps) _ (IsPermutation-cons p _ _ (IsPermutation-by_key ps)) (IsPermutation-placed p (by_key ps))
 
 distinct-from : (ks : List TermValue) → repeats ks ≡ false → IsDistinct is_same ks
 unfolding IsDistinct
@@ -104,30 +56,8 @@ pub repeats-IsPermutation : (ks ls : List TermValue) → IsPermutation ks ls →
 repeats-IsPermutation ks ls moved e =
     repeats-from ls (IsDistinct-IsPermutation is_same (λ x y. ap is_eq (order_total.antisymm x y) ∙ is_eq-reverse (order y x)) ks ls moved (distinct-from ks e))
 
--- ---- pairs by key are in order
-
-pub in_order_from_sort : (qs : List Pair) → IsSortedByKey (λ p. p.0) order qs → Adjacent Follows qs
-in_order_from_sort qs s = adjacent_from_places Follows qs (λ k d l. s k d (omega arith) l)
-
-Starts-placed : (p q : Pair) (qs : List Pair) → Follows q p → Starts Follows q qs → Starts Follows q (placed p qs)
-Starts-placed p q [] f s = f
-Starts-placed p q (r ∷ qs) f s =
-    elim (is_lt (order p.0 r.0)) as (λ b. Starts Follows q (cond b (p ∷ r ∷ qs) (r ∷ placed p qs))) [ true ↦ f | false ↦ s ]
-
-by_test : (p q : Pair) (qs : List Pair) (b : Bool) → is_lt (order p.0 q.0) ≡ b → Adjacent Follows (q ∷ qs) → Adjacent Follows (placed p qs) → Adjacent Follows (cond b (p ∷ q ∷ qs) (q ∷ placed p qs))
-by_test p q qs true e in_order rest = (less-reverse (order p.0 q.0) (order q.0 p.0) (order_total.antisymm q.0 p.0) (less-is _ e), in_order)
-by_test p q qs false e in_order rest = (Starts-placed p q qs e in_order.0, rest)
-
-Adjacent-placed : (p : Pair) (qs : List Pair) → Adjacent Follows qs → Adjacent Follows (placed p qs)
-Adjacent-placed p [] a = (tt, tt)
-Adjacent-placed p (q ∷ qs) a = by_test p q qs (is_lt (order p.0 q.0)) refl a (Adjacent-placed p qs a.1)
-
-pub Adjacent-by_key : (ps : List Pair) → Adjacent Follows (by_key ps)
-Adjacent-by_key [] = tt
-Adjacent-by_key (p ∷ ps) = Adjacent-placed p (by_key ps) (Adjacent-by_key ps)
-
 -- pairs in order without a repeated key ascend
-pub ascending_from_order : (qs : List Pair) → Adjacent Follows qs → repeats (keys qs) ≡ false → AreAscending (keys qs)
+pub ascending_from_order : (qs : List Pair) → Adjacent (Follows (λ (p : Pair). p.0)) qs → repeats (keys qs) ≡ false → AreAscending (keys qs)
 ascending_from_order [] a e = tt
 ascending_from_order (q ∷ []) a e = (tt, tt)
 ascending_from_order (q ∷ r ∷ qs) a e =
@@ -208,12 +138,12 @@ pub ascending_is_by_key : (ps qs : List Pair) → IsPermutation ps qs → AreAsc
 ascending_is_by_key ps qs moved a =
     let back = IsPermutation-sym ps qs moved in
     let none = repeats-IsPermutation (keys qs) (keys ps) (IsPermutation-map (λ p. p.0) qs ps back) (ascending_repeats (keys qs) a) in
-    let placed = IsPermutation-by_key ps in
+    let placed = IsPermutation-sorted_by (λ (p : Pair). p.0) ps in
     let still = repeats-IsPermutation (keys ps) (keys (by_key ps)) (IsPermutation-map (λ p. p.0) ps (by_key ps) placed) none in
     let there = IsPermutation-trans _ _ _ (IsPermutation-sym _ _ placed) moved in
-    (none, same_list (by_key ps) qs (ascending_from_order (by_key ps) (Adjacent-by_key ps) still) a (in_moved _ _ there) (in_moved _ _ (IsPermutation-sym _ _ there)))
+    (none, same_list (by_key ps) qs (ascending_from_order (by_key ps) (Adjacent-sorted_by (λ (p : Pair). p.0) ps) still) a (in_moved _ _ there) (in_moved _ _ (IsPermutation-sym _ _ there)))
 
 -- pairs in order that do not ascend repeat a key
-pub repeats_unless_ascending : (ps qs : List Pair) → IsPermutation ps qs → Adjacent Follows qs → (AreAscending (keys qs) → ⊥) → repeats (keys ps) ≡ true
+pub repeats_unless_ascending : (ps qs : List Pair) → IsPermutation ps qs → Adjacent (Follows (λ p. p.0)) qs → (AreAscending (keys qs) → ⊥) → repeats (keys ps) ≡ true
 repeats_unless_ascending ps qs moved in_order not_ascending =
     true_from_ne_false _ (λ e. not_ascending (ascending_from_order qs in_order (repeats-IsPermutation (keys ps) (keys qs) (IsPermutation-map (λ p. p.0) ps qs moved) e)))

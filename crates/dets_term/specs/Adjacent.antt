@@ -1,4 +1,4 @@
--- Neighbours in a list, by places and by recursion.
+-- Lemmas: neighbours in a list, by places and by recursion.
 use Rattle.std.proofs.Common.{◌≡◌, ℕ, zero, suc, ◌+◌, ◌<◌, List, [], ◌∷◌, length, get_or, subst, arith}
 
 -- R holds of an element and the first one of a list, where there is one
