@@ -1,7 +1,8 @@
 -- The objects of a set stay those of a set.
-use Rattle.std.proofs.Common.{◌≡◌, ℕ, zero, suc, ◌+◌, ◌≤◌, max, Bool, true, false, cond, not, List, [], ◌∷◌, ◌++◌, filter, length, take, Option, Some, None, refl, ap, ◌∙◌, arith, length-append}
+use Rattle.std.proofs.Common.{◌≡◌, ℕ, zero, suc, ◌+◌, ◌≤◌, max, Bool, true, false, cond, not, List, [], ◌∷◌, ◌++◌, filter, length, take, Option, Some, None}
+use Rattle.std.proofs.Common.{refl, ap, ◌∙◌, arith, length-append}
 use Rattle.std.proofs.lemmas.List.Elements.{filter-append}
-use Rattle.dets_term.specs.declared.kind.Kind.TheVariants.{Set}
+use Rattle.dets_term.specs.declared.Kind.TheVariants.{Set}
 use Rattle.dets_term.specs.TermValue.{TermValue, key, depth}
 use Rattle.dets_term.specs.Parts.{deepest, deepest-push}
 use Rattle.dets_term.specs.Same.{equal_from_same}
@@ -17,7 +18,8 @@ one_longer : (b : Bool) (x : TermValue) (xs ys : List TermValue) → length xs �
 one_longer true x xs ys h = omega arith
 one_longer false x xs ys h = h
 
-fewer_by : (p : TermValue → Bool) (b : Bool) (x : TermValue) (xs ys : List TermValue) → length (filter p xs) ≤ length (filter p ys) → length (filter p (cond b (x ∷ xs) xs)) ≤ length (filter p (x ∷ ys))
+fewer_by : (p : TermValue → Bool) (b : Bool) (x : TermValue) (xs ys : List TermValue) → length (filter p xs) ≤ length (filter p ys)
+    → length (filter p (cond b (x ∷ xs) xs)) ≤ length (filter p (x ∷ ys))
 fewer_by p true x xs ys h = both_longer (p x) x (filter p xs) (filter p ys) h
 fewer_by p false x xs ys h = one_longer (p x) x (filter p xs) (filter p ys) h
 
@@ -50,7 +52,8 @@ key_here : (k : TermValue) (found : Option TermValue) → is_key k found ≡ tru
 key_here k None e = cc
 key_here k (Some j) e = ap Some (equal_from_same j k e)
 
-one_more : (p : TermValue → Bool) (xs : List TermValue) (o : TermValue) (b : Bool) → p o ≡ b → length (filter p (xs ++ o ∷ [])) ≡ length (filter p xs) + length (cond b (o ∷ []) [])
+one_more : (p : TermValue → Bool) (xs : List TermValue) (o : TermValue) (b : Bool) → p o ≡ b
+    → length (filter p (xs ++ o ∷ [])) ≡ length (filter p xs) + length (cond b (o ∷ []) [])
 one_more p xs o b e =
     ap length (filter-append p xs (o ∷ [])) ∙ length-append (filter p xs) (filter p (o ∷ []))
     ∙ ap (λ c. length (filter p xs) + length (cond c (o ∷ []) [])) e

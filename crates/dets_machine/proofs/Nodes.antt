@@ -5,11 +5,12 @@ use Rattle.dets_term.specs.declared.term.Node.{Node}
 use Rattle.dets_term.specs.declared.term.Node.TheVariants.{Int, Atom, Tuple, Map, List as ListNode, Improper, Bits}
 use Rattle.dets_term.specs.TermValue.{TermValue, atom, tuple, nil, chain}
 use Rattle.dets_term.specs.Node.{shown, IsSound}
-use Rattle.run_model.specs.Command.{command_of, operation, asked, is_empty_list, is_object}
+use Rattle.run_model.specs.Command.{command_of, operation, of_three_parts, is_empty_list, is_object}
 use Rattle.dets_machine.specs.Command.{name_of}
 
 -- a list of three by its elements
-pub three : (ts : List TermValue) (a b c : TermValue) → length ts ≡ 3 → Some a ≡ slice_get ts 0 → Some b ≡ slice_get ts 1 → Some c ≡ slice_get ts 2 → ts ≡ a ∷ b ∷ c ∷ []
+pub three : (ts : List TermValue) (a b c : TermValue) → length ts ≡ 3 → Some a ≡ slice_get ts 0 → Some b ≡ slice_get ts 1 → Some c ≡ slice_get ts 2
+    → ts ≡ a ∷ b ∷ c ∷ []
 three [] a b c n p q r = absurd (omega arith)
 three (x ∷ []) a b c n p q r = absurd (omega arith)
 three (x ∷ y ∷ []) a b c n p q r = absurd (omega arith)
@@ -76,6 +77,7 @@ is_object_other (Improper (t ∷ ts) tail) sound other = refl
 is_object_other (Bits bytes used) sound other = refl
 
 -- what is asked by a client and an operation that are atoms
-pub asked_by_atoms : (client op argument : TermValue) (a b : List ℕ) → Some a ≡ name_of client → Some b ≡ name_of op → operation b argument ≡ asked client op argument
-asked_by_atoms (atom client) (atom name) argument a b p q = ap (λ (n : List ℕ). operation n argument) (let e : b ≡ name = cc in e)
-asked_by_atoms client op argument a b p q = cc
+pub operation-of_three_parts : (client op argument : TermValue) (a b : List ℕ) → Some a ≡ name_of client → Some b ≡ name_of op
+    → operation b argument ≡ of_three_parts client op argument
+operation-of_three_parts (atom client) (atom name) argument a b p q = ap (λ (n : List ℕ). operation n argument) (let e : b ≡ name = cc in e)
+operation-of_three_parts client op argument a b p q = cc

@@ -3,8 +3,8 @@ use Rattle.std.specs.Prelude.{◌≡◌, ℕ, zero, suc, Bool, List, refl}
 use Rattle.std.specs.Coded.{Coded, code_by, coded×, coded_ℕ, coded_list, coded_bool}
 use Rattle.dets_term.specs.TermValue.{TermValue}
 use Rattle.dets_term.specs.TermCode.{coded_term}
-use Rattle.dets_term.specs.declared.kind.Kind.{Kind}
-use Rattle.dets_term.specs.declared.kind.Kind.TheVariants.{Set, Bag, DuplicateBag}
+use Rattle.dets_term.specs.declared.Kind.{Kind}
+use Rattle.dets_term.specs.declared.Kind.TheVariants.{Set, Bag, DuplicateBag}
 use Rattle.run_model.specs.State.{State}
 
 pub record MachineValue : Type 0 where

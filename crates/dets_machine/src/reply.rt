@@ -1,12 +1,12 @@
 //! The replies to commands.
-ghost use Rattle.std.specs.Prelude.{◌≡◌, ◌≤◌, length, IfOk, IfErr};
+ghost use Rattle.std.specs.Prelude.{◌≡◌, ◌≤◌, length, IfOk};
 ghost use Rattle.std.specs.Str.{chars};
 ghost use Rattle.dets_term.specs.TermValue.{atom, chain, nil};
 ghost use Rattle.dets_term.specs.Parts.{deepest};
 ghost use Rattle.run_model.specs.Step.{ok, ok_table};
 
 use crate::Memory;
-use dets_term::{Term, TermFault, TermList};
+use dets_term::{Term, TermList, within_limits};
 use std::alloc::Global;
 
 /// `{ok,table}`
@@ -16,7 +16,7 @@ pub(crate) fn ok_table(alloc: Global) -> Result<Term, Memory>
     let mut parts = TermList::new(alloc);
     parts.push(ok(alloc)?)?;
     parts.push(word(alloc, "table")?)?;
-    built(Term::tuple(parts))
+    within_limits(Term::tuple(parts))
 }
 
 /// `ok`
@@ -32,7 +32,7 @@ pub(crate) fn list(found: TermList) -> Result<Term, Memory>
     requires shallow { deepest found ≤ 255 }
     ensures { IfOk result (λ reply. reply ≡ chain found nil) }
 {
-    built(Term::list(found))
+    within_limits(Term::list(found))
 }
 
 /// The atom of a short word.
@@ -40,17 +40,5 @@ fn word(alloc: Global, text: &str) -> Result<Term, Memory>
     requires { length text.now ≤ 255 }
     ensures { IfOk result (λ reply. reply ≡ atom (chars text.now)) }
 {
-    built(Term::atom(alloc, text))
-}
-
-/// A term that is within its limits.
-fn built(term: Result<Term, TermFault>) -> Result<Term, Memory>
-    requires { IfErr term (λ fault. fault ≡ TermFault.Memory) }
-    ensures { IfOk result (λ built. term ≡ Ok built) }
-{
-    match term {
-        Ok(term) => Ok(term),
-        Err(TermFault::Memory) => Err(Memory),
-        Err(_) => unreachable!(),
-    }
+    within_limits(Term::atom(alloc, text))
 }

@@ -4,7 +4,7 @@ ghost use Rattle.std.specs.Prelude.{◌≡◌, ◌≤◌, [], length, filter, no
 ghost use Rattle.dets_term.specs.TermValue.{depth, key};
 ghost use Rattle.dets_term.specs.Sorted.{ascending};
 ghost use Rattle.dets_term.specs.Parts.{deepest};
-ghost use Rattle.dets_term.specs.declared.kind.Kind.TheVariants.{Set};
+ghost use Rattle.dets_term.specs.declared.Kind.TheVariants.{Set};
 ghost use Rattle.table_model.specs.Table.{has_key, shares_key, with_object};
 
 use crate::Memory;

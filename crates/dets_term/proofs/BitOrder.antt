@@ -1,5 +1,6 @@
 -- The order of bit strings by their bytes and then by their used bits.
-use Rattle.std.proofs.Common.{◌≡◌, ℕ, zero, suc, ◌-◌, ◌/◌, ◌%◌, ◌^◌, ◌<◌, ◌≤◌, Bool, true, false, ◌==◌, List, [], ◌∷◌, ◌++◌, length, take, drop, get_or, refl, ap, ◌∙◌, sym, arith}
+use Rattle.std.proofs.Common.{◌≡◌, ℕ, zero, suc, ◌-◌, ◌/◌, ◌%◌, ◌^◌, ◌<◌, ◌≤◌, Bool, true, false, ◌==◌, List, [], ◌∷◌, ◌++◌, length, take, drop, get_or, refl}
+use Rattle.std.proofs.Common.{ap, ◌∙◌, sym, arith}
 use Rattle.std.specs.List.{AllByRecursion}
 use Rattle.std.specs.declared.cmp.Ordering.{Ordering}
 use Rattle.std.specs.declared.cmp.Ordering.TheVariants.{Less, Equal, Greater}
@@ -7,12 +8,13 @@ use Rattle.std.specs.Ordering.{nat_cmp, bool_cmp, ordering_then, MatchOrdering}
 use Rattle.std.specs.Cmp.{nat_cmp_is}
 use Rattle.std.specs.Cmp.Lexicographic.{slice_cmp}
 use Rattle.std.proofs.lemmas.Cmp.{ranked}
-use Rattle.dets_term.specs.BitString.{is_odd, byte_bits, bits_of, IsPadded}
-use Rattle.dets_term.specs.Orderings.{then_assoc, nat_cmp_self, nat_cmp-zero-suc, nat_cmp-suc-zero, nat_cmp-suc, then_equal}
+use Rattle.term_model.specs.BitString.{is_odd, byte_bits, bits_of, IsPadded}
+use Rattle.term_model.specs.Orderings.{then_assoc, nat_cmp_self, nat_cmp-zero-suc, nat_cmp-suc-zero, nat_cmp-suc, then_equal}
 
 -- ---- one byte
 
-halves : (x y : ℕ) (o p : Ordering) → MatchOrdering o (x / 2 < y / 2) (x / 2 ≡ y / 2) (y / 2 < x / 2) → MatchOrdering p (x % 2 < y % 2) (x % 2 ≡ y % 2) (y % 2 < x % 2)
+halves : (x y : ℕ) (o p : Ordering) → MatchOrdering o (x / 2 < y / 2) (x / 2 ≡ y / 2) (y / 2 < x / 2)
+    → MatchOrdering p (x % 2 < y % 2) (x % 2 ≡ y % 2) (y % 2 < x % 2)
     → MatchOrdering (ordering_then o p) (x < y) (x ≡ y) (y < x)
 halves x y Less p h k = omega arith
 halves x y Greater p h k = omega arith
@@ -39,12 +41,14 @@ halved x y =
 
 -- ---- bits in front of more bits
 
-slice_cmp-append : (xs ys r s : List Bool) → length xs ≡ length ys → slice_cmp bool_cmp (xs ++ r) (ys ++ s) ≡ ordering_then (slice_cmp bool_cmp xs ys) (slice_cmp bool_cmp r s)
+slice_cmp-append : (xs ys r s : List Bool) → length xs ≡ length ys
+    → slice_cmp bool_cmp (xs ++ r) (ys ++ s) ≡ ordering_then (slice_cmp bool_cmp xs ys) (slice_cmp bool_cmp r s)
 slice_cmp-append [] [] r s e = refl
 slice_cmp-append [] (y ∷ ys) r s e = absurd (omega arith)
 slice_cmp-append (x ∷ xs) [] r s e = absurd (omega arith)
 slice_cmp-append (x ∷ xs) (y ∷ ys) r s e =
-    ap (ordering_then (bool_cmp x y)) (slice_cmp-append xs ys r s (omega arith)) ∙ sym (then_assoc (bool_cmp x y) (slice_cmp bool_cmp xs ys) (slice_cmp bool_cmp r s))
+    ap (ordering_then (bool_cmp x y)) (slice_cmp-append xs ys r s (omega arith))
+    ∙ sym (then_assoc (bool_cmp x y) (slice_cmp bool_cmp xs ys) (slice_cmp bool_cmp r s))
 
 grown : (xs ys : List Bool) (a b c d : ℕ) → length xs ≡ length ys → a / 2 ≡ c → b / 2 ≡ d → slice_cmp bool_cmp xs ys ≡ nat_cmp c d
     → slice_cmp bool_cmp (xs ++ is_odd a ∷ []) (ys ++ is_odd b ∷ []) ≡ nat_cmp a b
@@ -58,13 +62,13 @@ byte_order x y h k =
     let s7 : slice_cmp bool_cmp (is_odd (x / 128) ∷ []) (is_odd (y / 128) ∷ []) ≡ nat_cmp (x / 128) (y / 128) =
     then_equal (bool_cmp (is_odd (x / 128)) (is_odd (y / 128))) ∙ sym (odd_order (x / 128) (y / 128))
     ∙ (λ i. nat_cmp ((let e : x / 128 % 2 ≡ x / 128 = omega arith in e) i) ((let e : y / 128 % 2 ≡ y / 128 = omega arith in e) i)) in
-    let s6 = grown (is_odd (x / 128) ∷ []) (is_odd (y / 128) ∷ []) (x / 64) (y / 64) (x / 128) (y / 128) refl (omega arith) (omega arith) s7 in
-    let s5 = grown (is_odd (x / 128) ∷ is_odd (x / 64) ∷ []) (is_odd (y / 128) ∷ is_odd (y / 64) ∷ []) (x / 32) (y / 32) (x / 64) (y / 64) refl (omega arith) (omega arith) s6 in
-    let s4 = grown (is_odd (x / 128) ∷ is_odd (x / 64) ∷ is_odd (x / 32) ∷ []) (is_odd (y / 128) ∷ is_odd (y / 64) ∷ is_odd (y / 32) ∷ []) (x / 16) (y / 16) (x / 32) (y / 32) refl (omega arith) (omega arith) s5 in
-    let s3 = grown (is_odd (x / 128) ∷ is_odd (x / 64) ∷ is_odd (x / 32) ∷ is_odd (x / 16) ∷ []) (is_odd (y / 128) ∷ is_odd (y / 64) ∷ is_odd (y / 32) ∷ is_odd (y / 16) ∷ []) (x / 8) (y / 8) (x / 16) (y / 16) refl (omega arith) (omega arith) s4 in
-    let s2 = grown (is_odd (x / 128) ∷ is_odd (x / 64) ∷ is_odd (x / 32) ∷ is_odd (x / 16) ∷ is_odd (x / 8) ∷ []) (is_odd (y / 128) ∷ is_odd (y / 64) ∷ is_odd (y / 32) ∷ is_odd (y / 16) ∷ is_odd (y / 8) ∷ []) (x / 4) (y / 4) (x / 8) (y / 8) refl (omega arith) (omega arith) s3 in
-    let s1 = grown (is_odd (x / 128) ∷ is_odd (x / 64) ∷ is_odd (x / 32) ∷ is_odd (x / 16) ∷ is_odd (x / 8) ∷ is_odd (x / 4) ∷ []) (is_odd (y / 128) ∷ is_odd (y / 64) ∷ is_odd (y / 32) ∷ is_odd (y / 16) ∷ is_odd (y / 8) ∷ is_odd (y / 4) ∷ []) (x / 2) (y / 2) (x / 4) (y / 4) refl (omega arith) (omega arith) s2 in
-    grown (is_odd (x / 128) ∷ is_odd (x / 64) ∷ is_odd (x / 32) ∷ is_odd (x / 16) ∷ is_odd (x / 8) ∷ is_odd (x / 4) ∷ is_odd (x / 2) ∷ []) (is_odd (y / 128) ∷ is_odd (y / 64) ∷ is_odd (y / 32) ∷ is_odd (y / 16) ∷ is_odd (y / 8) ∷ is_odd (y / 4) ∷ is_odd (y / 2) ∷ []) x y (x / 2) (y / 2) refl refl refl s1
+    let s6 = grown (take 1 (byte_bits x)) (take 1 (byte_bits y)) (x / 64) (y / 64) (x / 128) (y / 128) refl (omega arith) (omega arith) s7 in
+    let s5 = grown (take 2 (byte_bits x)) (take 2 (byte_bits y)) (x / 32) (y / 32) (x / 64) (y / 64) refl (omega arith) (omega arith) s6 in
+    let s4 = grown (take 3 (byte_bits x)) (take 3 (byte_bits y)) (x / 16) (y / 16) (x / 32) (y / 32) refl (omega arith) (omega arith) s5 in
+    let s3 = grown (take 4 (byte_bits x)) (take 4 (byte_bits y)) (x / 8) (y / 8) (x / 16) (y / 16) refl (omega arith) (omega arith) s4 in
+    let s2 = grown (take 5 (byte_bits x)) (take 5 (byte_bits y)) (x / 4) (y / 4) (x / 8) (y / 8) refl (omega arith) (omega arith) s3 in
+    let s1 = grown (take 6 (byte_bits x)) (take 6 (byte_bits y)) (x / 2) (y / 2) (x / 4) (y / 4) refl (omega arith) (omega arith) s2 in
+    grown (take 7 (byte_bits x)) (take 7 (byte_bits y)) x y (x / 2) (y / 2) refl refl refl s1
 
 -- ---- zeros behind the used bits
 
@@ -110,7 +114,8 @@ used_order (x ∷ xs) (y ∷ ys) zero (suc w) e h k z v =
 used_order (x ∷ xs) (y ∷ ys) (suc u) zero e h k z v =
     sym (ap (ordering_then (slice_cmp bool_cmp (x ∷ xs) (y ∷ ys))) (nat_cmp-suc-zero u) ∙ zeros_last (x ∷ xs) (y ∷ ys) e v)
 used_order (x ∷ xs) (y ∷ ys) (suc u) (suc w) e h k z v =
-    ap (ordering_then (bool_cmp x y)) (used_order xs ys u w (omega arith) (omega arith) (omega arith) z v ∙ ap (ordering_then (slice_cmp bool_cmp xs ys)) (sym (nat_cmp-suc u w)))
+    ap (ordering_then (bool_cmp x y)) (used_order xs ys u w (omega arith) (omega arith) (omega arith) z v
+    ∙ ap (ordering_then (slice_cmp bool_cmp xs ys)) (sym (nat_cmp-suc u w)))
     ∙ sym (then_assoc (bool_cmp x y) (slice_cmp bool_cmp xs ys) (nat_cmp (suc u) (suc w)))
 
 -- some used bits against all bits and more

@@ -1,10 +1,9 @@
 -- Lists that are joined, and what a list that ends in a tail is.
-use Rattle.std.proofs.Common.{◌≡◌, ℕ, ◌*◌, ◌<◌, ◌≤◌, ◌^◌, false, max, Ok, List, [], ◌∷◌, ◌++◌, length, length-append, length-take, refl, ap, ◌∙◌, sym, arith, nat_le, cond, lt-ltb, le-leb}
-use Rattle.dets_term.specs.declared.term.TermFault.TheVariants.{Depth, ManyParts}
-use Rattle.std.proofs.Common.{Err}
-use Rattle.dets_term.specs.TermValue.{TermValue, integer, atom, tuple, mapping, nil, cons, bits, chain, elements, is_list, depth}
-use Rattle.dets_term.specs.IsTerm.{IsTerm, IsBounded, built}
-use Rattle.dets_term.specs.BitString.{byte_bits, bits_of}
+use Rattle.std.proofs.Common.{◌≡◌, ℕ, ◌*◌, ◌<◌, ◌≤◌, ◌^◌, false, max, Ok, List, [], ◌∷◌, ◌++◌, length, length-append, length-take, refl, ap, ◌∙◌, sym, arith}
+use Rattle.term_model.specs.TermValue.{TermValue, integer, atom, tuple, mapping, nil, cons, bits, chain, elements, is_list}
+use Rattle.term_model.specs.IsTerm.{IsTerm, IsBounded, built}
+use Rattle.term_model.specs.Limits.{built-within}
+use Rattle.term_model.specs.BitString.{byte_bits, bits_of}
 use Rattle.dets_term.specs.Parts.{deepest, AreTerms, elements-improper}
 
 pub deepest-append : (ts us : List TermValue) → deepest (ts ++ us) ≡ max (deepest ts) (deepest us)
@@ -20,7 +19,8 @@ chain-append [] us tail = refl
 chain-append (t ∷ ts) us tail = ap (cons t) (chain-append ts us tail)
 
 -- fewer than 2 ^ 32 terms in front of a tail that is no list make a list within the limits
-pub IsBounded-improper : (ts : List TermValue) (tail : TermValue) → length ts < 2 ^ 32 → is_list tail ≡ false → AreTerms ts → IsTerm tail → IsBounded (chain ts tail)
+pub IsBounded-improper : (ts : List TermValue) (tail : TermValue) → length ts < 2 ^ 32 → is_list tail ≡ false → AreTerms ts → IsTerm tail
+    → IsBounded (chain ts tail)
 IsBounded-improper [] tail short e terms term = term.bounded
 IsBounded-improper (t ∷ ts) tail short e terms term =
     let size : length (elements (chain (t ∷ ts) tail)) ≡ length (t ∷ ts) = ap length (elements-improper (t ∷ ts) tail e) in
@@ -37,26 +37,25 @@ few_elements (bits bs) b = omega arith
 
 -- a term is what building it answers
 pub built-term : (t : TermValue) → IsTerm t → Ok t ≡ built (length (elements t)) t
-built-term t term =
-    sym (
-    ap (λ b. cond b (cond (nat_le (depth t) 256) (Ok t) (Err Depth)) (Err ManyParts)) (lt-ltb (length (elements t)) (2 ^ 32) (few_elements t term.bounded))
-    ∙ ap (λ b. cond b (Ok t) (Err Depth)) (le-leb (depth t) 256 term.shallow)
-    )
+built-term t term = sym (built-within (length (elements t)) t (few_elements t term.bounded) term.shallow)
 
 elements-end : (ts : List TermValue) (last : TermValue) → elements last ≡ [] → elements (chain ts last) ≡ ts
 elements-end [] last none = none
 elements-end (t ∷ ts) last none = ap (λ us. t ∷ us) (elements-end ts last none)
 
 -- building a list of terms in front of a list is building a list of both
-pub built-joined : (ts us both : List TermValue) (last end tail : TermValue) → both ≡ ts ++ us → end ≡ last → tail ≡ chain us last → elements last ≡ [] → built (length both) (chain both end) ≡ built (length (elements (chain ts tail))) (chain ts tail)
+pub built-joined : (ts us both : List TermValue) (last end tail : TermValue) → both ≡ ts ++ us → end ≡ last → tail ≡ chain us last
+    → elements last ≡ [] → built (length both) (chain both end) ≡ built (length (elements (chain ts tail))) (chain ts tail)
 built-joined ts us both last end tail b l e none =
-    let whole : chain both end ≡ chain ts tail = ap (λ vs. chain vs end) b ∙ chain-append ts us end ∙ ap (λ t. chain ts (chain us t)) l ∙ ap (chain ts) (sym e) in
+    let whole : chain both end ≡ chain ts tail = ap (λ vs. chain vs end) b ∙ chain-append ts us end ∙ ap (λ t. chain ts (chain us t)) l
+    ∙ ap (chain ts) (sym e) in
     let ended : elements end ≡ [] = ap elements l ∙ none in
     let size : length both ≡ length (elements (chain ts tail)) = ap length (sym (elements-end both end ended)) ∙ ap (λ t. length (elements t)) whole in
     ap (λ n. built n (chain both end)) size ∙ ap (built (length (elements (chain ts tail)))) whole
 
 -- and so it is in front of a tail that is no list
-pub built-ended : (ts : List TermValue) (tail : TermValue) → is_list tail ≡ false → built (length ts) (chain ts tail) ≡ built (length (elements (chain ts tail))) (chain ts tail)
+pub built-ended : (ts : List TermValue) (tail : TermValue) → is_list tail ≡ false
+    → built (length ts) (chain ts tail) ≡ built (length (elements (chain ts tail))) (chain ts tail)
 built-ended ts tail e = ap (λ us. built (length us) (chain ts tail)) (sym (elements-improper ts tail e))
 
 -- no terms in front of a tail are the tail

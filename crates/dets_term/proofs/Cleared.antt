@@ -1,9 +1,11 @@
 -- Cleared bits of a byte, and of the last byte of some bytes.
-use Rattle.std.proofs.Common.{◌≡◌, ℕ, zero, suc, ◌-◌, ◌*◌, ◌/◌, ◌%◌, ◌^◌, ◌<◌, ◌≤◌, List, [], ◌∷◌, ◌++◌, take, set, get_or, length, length-set, refl, ap, ◌∙◌, arith}
-use Rattle.dets_term.specs.BitString.{byte_bits, bits_of, last_byte, MayUse, IsPadded}
+use Rattle.std.proofs.Common.{◌≡◌, ℕ, zero, suc, ◌-◌, ◌*◌, ◌/◌, ◌%◌, ◌^◌, ◌<◌, ◌≤◌, List, [], ◌∷◌, ◌++◌, take, set, get_or, length, length-set, refl, ap, ◌∙◌}
+use Rattle.std.proofs.Common.{arith}
+use Rattle.term_model.specs.BitString.{byte_bits, bits_of, last_byte, MayUse, IsPadded}
 
 -- with its lower bits cleared a byte keeps the bits in front of them
-pub front-kept : (count x : ℕ) → x < 256 → 1 ≤ count → count ≤ 8 → take count (byte_bits (x / 2 ^ (8 - count) * 2 ^ (8 - count) % 256)) ≡ take count (byte_bits x)
+pub front-kept : (count x : ℕ) → x < 256 → 1 ≤ count → count ≤ 8
+    → take count (byte_bits (x / 2 ^ (8 - count) * 2 ^ (8 - count) % 256)) ≡ take count (byte_bits x)
 front-kept zero x fits some all = absurd (omega arith)
 front-kept (suc zero) x fits some all =
     let e1 : x / 128 * 128 % 256 / 128 ≡ x / 128 = omega arith in
@@ -68,7 +70,8 @@ last_byte-cons x [] some = absurd (omega arith)
 last_byte-cons x (y ∷ bytes) some = refl
 
 -- a last byte that begins alike gives the same bits
-pub bits_of-set : (bytes : List ℕ) (place x y used : ℕ) → suc place ≡ length bytes → x ≡ get_or bytes place x → take used (byte_bits y) ≡ take used (byte_bits x) → bits_of (set bytes place y) used ≡ bits_of bytes used
+pub bits_of-set : (bytes : List ℕ) (place x y used : ℕ) → suc place ≡ length bytes → x ≡ get_or bytes place x
+    → take used (byte_bits y) ≡ take used (byte_bits x) → bits_of (set bytes place y) used ≡ bits_of bytes used
 bits_of-set [] place x y used e at same = absurd (omega arith)
 bits_of-set (z ∷ []) zero x y used e at same = same ∙ ap (λ b. take used (byte_bits b)) at
 bits_of-set (z ∷ []) (suc place) x y used e at same = absurd (omega arith)
@@ -86,7 +89,8 @@ last_byte-set (z ∷ w ∷ bytes) (suc place) y e =
     last_byte-cons z (set (w ∷ bytes) place y) (omega (arith, length-set (w ∷ bytes) place y)) ∙ last_byte-set (w ∷ bytes) place y (omega arith)
 
 -- and one with zeros at its end leaves the unused bits zero
-pub IsPadded-set : (bytes : List ℕ) (place y used : ℕ) → suc place ≡ length bytes → MayUse bytes used → y % 2 ^ (8 - used) ≡ 0 → IsPadded (set bytes place y) used
+pub IsPadded-set : (bytes : List ℕ) (place y used : ℕ) → suc place ≡ length bytes → MayUse bytes used → y % 2 ^ (8 - used) ≡ 0
+    → IsPadded (set bytes place y) used
 IsPadded-set bytes place y used e may zeros = record {
   used = (may.0, may.1, λ none. absurd (let n : length (set bytes place y) ≡ 0 = ap length none in omega (arith, length-set bytes place y)));
   zeros = rw (last_byte-set bytes place y e) zeros;

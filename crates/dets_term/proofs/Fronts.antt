@@ -6,11 +6,11 @@ use Rattle.std.specs.Ordering.{nat_cmp, ordering_then, match_ordering, is_ne, is
 use Rattle.std.proofs.lemmas.List.{drop_more, length-map}
 use Rattle.std.proofs.Math.ListN.{drop_of_length-le}
 use Rattle.std.proofs.lemmas.Bool.{cases_lt, cases_order}
-use Rattle.dets_term.specs.TermValue.{TermValue, integer, atom, tuple, mapping, nil, cons, bits, chain, map_of, is_list}
-use Rattle.dets_term.specs.Order.{order, rank, by_count}
-use Rattle.dets_term.specs.Orderings.{decided, undecided, then_assoc, then_equal, nat_cmp_self, nat_cmp-zero-suc, nat_cmp-suc-zero, nat_cmp-suc, nat_cmp-apart}
+use Rattle.term_model.specs.TermValue.{TermValue, integer, atom, tuple, mapping, nil, cons, bits, chain, map_of, is_list}
+use Rattle.term_model.specs.Order.{order, rank, by_count}
+use Rattle.term_model.specs.Orderings.{decided, undecided, then_assoc, then_equal, nat_cmp_self, nat_cmp-zero-suc, nat_cmp-suc-zero, nat_cmp-suc, nat_cmp-apart}
 use Rattle.dets_term.specs.Fronts.{front_order, ends_order, values}
-use Rattle.dets_term.specs.Pairs.{keys}
+use Rattle.term_model.specs.Pairs.{keys}
 use Rattle.dets_term.specs.Parts.{elements-chain}
 
 -- ---- values of two kinds
@@ -39,7 +39,8 @@ order-chains [] [] x y m n = refl
 order-chains [] (u ∷ us) x y m n =
     unlike x (cons u (chain us y)) m ∙ ap (λ o. match_ordering o (nat_cmp (rank x) 5) (order x y) (nat_cmp 5 (rank y))) (sym (nat_cmp-zero-suc (length us)))
 order-chains (t ∷ ts) [] x y m n =
-    unlike (cons t (chain ts x)) y (λ e. n (sym e)) ∙ ap (λ o. match_ordering o (nat_cmp (rank x) 5) (order x y) (nat_cmp 5 (rank y))) (sym (nat_cmp-suc-zero (length ts)))
+    unlike (cons t (chain ts x)) y (λ e. n (sym e)) ∙ ap (λ o. match_ordering o (nat_cmp (rank x) 5) (order x y) (nat_cmp 5 (rank y)))
+    (sym (nat_cmp-suc-zero (length ts)))
 order-chains (t ∷ ts) (u ∷ us) x y m n =
     let ends : Ordering → Ordering = λ o. match_ordering o (nat_cmp (rank x) 5) (order x y) (nat_cmp 5 (rank y)) in
     ap (ordering_then (order t u)) (order-chains ts us x y m n)
@@ -65,14 +66,16 @@ pub order-proper-improper : (ts us : List TermValue) (y : TermValue) → is_list
 order-proper-improper ts us y e =
     let ends = rank-end y e in
     order-chains ts us nil y four_five ends.1
-    ∙ ap (λ o. ordering_then (front_order ts us) (match_ordering (nat_cmp (length ts) (length us)) Less o (nat_cmp 5 (rank y)))) (unlike nil y (λ r. ends.0 (sym r)))
+    ∙ ap (λ o. ordering_then (front_order ts us) (match_ordering (nat_cmp (length ts) (length us)) Less o (nat_cmp 5 (rank y))))
+    (unlike nil y (λ r. ends.0 (sym r)))
 
 pub order-improper-proper : (ts us : List TermValue) (x : TermValue) → is_list x ≡ false
     → order (chain ts x) (chain us nil) ≡ ordering_then (front_order ts us) (ends_order (length ts) (rank x) (length us) 4)
 order-improper-proper ts us x e =
     let ends = rank-end x e in
     order-chains ts us x nil ends.1 four_five
-    ∙ ap (λ o. ordering_then (front_order ts us) (match_ordering (nat_cmp (length ts) (length us)) (nat_cmp (rank x) 5) o Greater)) (unlike x nil (λ r. ends.0 r))
+    ∙ ap (λ o. ordering_then (front_order ts us) (match_ordering (nat_cmp (length ts) (length us)) (nat_cmp (rank x) 5) o Greater))
+    (unlike x nil (λ r. ends.0 r))
 
 -- two with ends that alone decide
 equal_from_is_eq : (o : Ordering) → is_eq o ≡ true → o ≡ Equal
@@ -84,7 +87,8 @@ pub order-improper_ends : (ts us : List TermValue) (x y : TermValue) → is_list
     → is_eq (front_order ts us) ≡ true → order (chain ts x) (chain us y) ≡ order x y
 order-improper_ends ts us x y d e same h =
     order-chains ts us x y (rank-end x d).1 (rank-end y e).1
-    ∙ (λ i. ordering_then (equal_from_is_eq (front_order ts us) h i) (match_ordering ((ap (λ n. nat_cmp (length ts) n) (sym same) ∙ nat_cmp_self (length ts)) i) (nat_cmp (rank x) 5) (order x y) (nat_cmp 5 (rank y))))
+    ∙ (λ i. ordering_then (equal_from_is_eq (front_order ts us) h i)
+    (match_ordering ((ap (λ n. nat_cmp (length ts) n) (sym same) ∙ nat_cmp_self (length ts)) i) (nat_cmp (rank x) 5) (order x y) (nat_cmp 5 (rank y))))
 
 passed_over : (o p q r s : Ordering) → is_ne o ≡ true → match_ordering o p q s ≡ match_ordering o p r s
 passed_over Less p q r s e = refl
@@ -100,7 +104,8 @@ pub order-improper_longer : (ts us : List TermValue) (x y : TermValue) → is_li
     → order (chain ts x) (chain us y) ≡ ordering_then (front_order ts us) (ends_order (length ts) (rank x) (length us) (rank y))
 order-improper_longer ts us x y d e differ =
     order-chains ts us x y (rank-end x d).1 (rank-end y e).1
-    ∙ ap (ordering_then (front_order ts us)) (passed_over (nat_cmp (length ts) (length us)) _ (order x y) (nat_cmp (rank x) (rank y)) _ (nat_cmp-apart (length ts) (length us) differ))
+    ∙ ap (ordering_then (front_order ts us)) (passed_over (nat_cmp (length ts) (length us)) _ (order x y) (nat_cmp (rank x) (rank y)) _
+    (nat_cmp-apart (length ts) (length us) differ))
 
 pub order-improper_fronts : (ts us : List TermValue) (x y : TermValue) → is_list x ≡ false → is_list y ≡ false → is_eq (front_order ts us) ≡ false
     → order (chain ts x) (chain us y) ≡ ordering_then (front_order ts us) (ends_order (length ts) (rank x) (length us) (rank y))
@@ -112,7 +117,8 @@ order-improper_fronts ts us x y d e h =
 counts : (ts us : List TermValue) → by_count (chain ts nil) (chain us nil) ≡ nat_cmp (length ts) (length us)
 counts ts us i = nat_cmp (length (elements-chain ts i)) (length (elements-chain us i))
 
-pub order-tuples_differ : (ts us : List TermValue) → (length ts ≡ length us → ⊥) → order (tuple (chain ts nil)) (tuple (chain us nil)) ≡ nat_cmp (length ts) (length us)
+pub order-tuples_differ : (ts us : List TermValue) → (length ts ≡ length us → ⊥)
+    → order (tuple (chain ts nil)) (tuple (chain us nil)) ≡ nat_cmp (length ts) (length us)
 order-tuples_differ ts us d =
     ap (λ o. ordering_then o (order (chain ts nil) (chain us nil))) (counts ts us) ∙ decided _ _ (nat_cmp-apart (length ts) (length us) d)
 
@@ -139,7 +145,8 @@ order-maps : (ps qs : List (TermValue × TermValue)) → length ps ≡ length qs
 order-maps ps qs e =
     let as_many_keys = keys_count ps ∙ e ∙ sym (keys_count qs) in
     let as_many_values = values_count ps ∙ e ∙ sym (values_count qs) in
-    ap (λ o. ordering_then o (ordering_then (order (chain (keys ps) nil) (chain (keys qs) nil)) (order (chain (values ps) nil) (chain (values qs) nil)))) (as_many (keys ps) (keys qs) as_many_keys)
+    ap (λ o. ordering_then o (ordering_then (order (chain (keys ps) nil) (chain (keys qs) nil))
+    (order (chain (values ps) nil) (chain (values qs) nil)))) (as_many (keys ps) (keys qs) as_many_keys)
     ∙ (λ i. ordering_then (order-as_long (keys ps) (keys qs) as_many_keys i) (order-as_long (values ps) (values qs) as_many_values i))
 
 apart : (m n : ℕ) → (m < n) ⊎ (n < m) → m ≡ n → ⊥
@@ -150,7 +157,8 @@ apart m n h e = elim h [
 
 -- by size, then by keys, then by values
 pub order-maps_by_steps : (ps qs : List (TermValue × TermValue))
-    → order (map_of ps) (map_of qs) ≡ ordering_then (ordering_then (nat_cmp (length ps) (length qs)) (front_order (keys ps) (keys qs))) (front_order (values ps) (values qs))
+    → order (map_of ps) (map_of qs) ≡ ordering_then (ordering_then (nat_cmp (length ps) (length qs)) (front_order (keys ps) (keys qs)))
+    (front_order (values ps) (values qs))
 order-maps_by_steps ps qs =
     elim (cases_order (length ps) (length qs)) [
       | inl e ↦
@@ -173,33 +181,39 @@ past_size m n o e = ap (λ p. ordering_then p o) (sym (ap (λ k. nat_cmp m k) (s
 
 -- ---- one place after another
 
-front_more : (ts us : List TermValue) (i : ℕ) (t u : TermValue) (o : Ordering) → i < length ts → i < length us → t ≡ get_or ts i t → u ≡ get_or us i u → o ≡ order t u
+front_more : (ts us : List TermValue) (i : ℕ) (t u : TermValue) (o : Ordering) → i < length ts → i < length us → t ≡ get_or ts i t
+    → u ≡ get_or us i u → o ≡ order t u
     → front_order (drop i ts) (drop i us) ≡ ordering_then o (front_order (drop (i + 1) ts) (drop (i + 1) us))
 front_more ts us i t u o h k d e is =
     (λ j. front_order (drop_more ts i t h j) (drop_more us i u k j))
     ∙ (λ j. ordering_then (order (sym d j) (sym e j)) (front_order (drop (i + 1) ts) (drop (i + 1) us)))
     ∙ ap (λ p. ordering_then p (front_order (drop (i + 1) ts) (drop (i + 1) us))) (sym is)
 
-pub front_decided : (ts us : List TermValue) (i : ℕ) (t u : TermValue) (o : Ordering) → i < length ts → i < length us → t ≡ get_or ts i t → u ≡ get_or us i u → o ≡ order t u
+pub front_decided : (ts us : List TermValue) (i : ℕ) (t u : TermValue) (o : Ordering) → i < length ts → i < length us → t ≡ get_or ts i t
+    → u ≡ get_or us i u → o ≡ order t u
     → is_ne o ≡ true → front_order (drop i ts) (drop i us) ≡ o
 front_decided ts us i t u o h k d e is n = front_more ts us i t u o h k d e is ∙ decided o _ n
 
-pub front_goes_on : (ts us : List TermValue) (i : ℕ) (t u : TermValue) (o : Ordering) → i < length ts → i < length us → t ≡ get_or ts i t → u ≡ get_or us i u → o ≡ order t u
+pub front_goes_on : (ts us : List TermValue) (i : ℕ) (t u : TermValue) (o : Ordering) → i < length ts → i < length us → t ≡ get_or ts i t
+    → u ≡ get_or us i u → o ≡ order t u
     → is_ne o ≡ false → front_order (drop i ts) (drop i us) ≡ front_order (drop (i + 1) ts) (drop (i + 1) us)
 front_goes_on ts us i t u o h k d e is n = front_more ts us i t u o h k d e is ∙ undecided o _ n
 
-mapped_more : {A : Type 0} (f : A → TermValue) (ps qs : List A) (i : ℕ) (p q : A) (o : Ordering) → i < length ps → i < length qs → p ≡ get_or ps i p → q ≡ get_or qs i q → o ≡ order (f p) (f q)
+mapped_more : {A : Type 0} (f : A → TermValue) (ps qs : List A) (i : ℕ) (p q : A) (o : Ordering) → i < length ps → i < length qs → p ≡ get_or ps i p
+    → q ≡ get_or qs i q → o ≡ order (f p) (f q)
     → front_order (map f (drop i ps)) (map f (drop i qs)) ≡ ordering_then o (front_order (map f (drop (i + 1) ps)) (map f (drop (i + 1) qs)))
 mapped_more f ps qs i p q o h k d e is =
     (λ j. front_order (map f (drop_more ps i p h j)) (map f (drop_more qs i q k j)))
     ∙ (λ j. ordering_then (order (f (sym d j)) (f (sym e j))) (front_order (map f (drop (i + 1) ps)) (map f (drop (i + 1) qs))))
     ∙ ap (λ r. ordering_then r (front_order (map f (drop (i + 1) ps)) (map f (drop (i + 1) qs)))) (sym is)
 
-pub mapped_decided : {A : Type 0} (f : A → TermValue) (ps qs : List A) (i : ℕ) (p q : A) (o : Ordering) → i < length ps → i < length qs → p ≡ get_or ps i p → q ≡ get_or qs i q → o ≡ order (f p) (f q)
+pub mapped_decided : {A : Type 0} (f : A → TermValue) (ps qs : List A) (i : ℕ) (p q : A) (o : Ordering) → i < length ps → i < length qs
+    → p ≡ get_or ps i p → q ≡ get_or qs i q → o ≡ order (f p) (f q)
     → is_ne o ≡ true → front_order (map f (drop i ps)) (map f (drop i qs)) ≡ o
 mapped_decided f ps qs i p q o h k d e is n = mapped_more f ps qs i p q o h k d e is ∙ decided o _ n
 
-pub mapped_goes_on : {A : Type 0} (f : A → TermValue) (ps qs : List A) (i : ℕ) (p q : A) (o : Ordering) → i < length ps → i < length qs → p ≡ get_or ps i p → q ≡ get_or qs i q → o ≡ order (f p) (f q)
+pub mapped_goes_on : {A : Type 0} (f : A → TermValue) (ps qs : List A) (i : ℕ) (p q : A) (o : Ordering) → i < length ps → i < length qs
+    → p ≡ get_or ps i p → q ≡ get_or qs i q → o ≡ order (f p) (f q)
     → is_ne o ≡ false → front_order (map f (drop i ps)) (map f (drop i qs)) ≡ front_order (map f (drop (i + 1) ps)) (map f (drop (i + 1) qs))
 mapped_goes_on f ps qs i p q o h k d e is n = mapped_more f ps qs i p q o h k d e is ∙ undecided o _ n
 
@@ -207,7 +221,8 @@ front-none : (ts : List TermValue) → front_order ts [] ≡ Equal
 front-none [] = refl
 front-none (t ∷ ts) = refl
 
-pub mapped_all : {A : Type 0} (f : A → TermValue) (ps qs : List A) (i : ℕ) → min (length ps) (length qs) ≤ i → front_order (map f (drop i ps)) (map f (drop i qs)) ≡ Equal
+pub mapped_all : {A : Type 0} (f : A → TermValue) (ps qs : List A) (i : ℕ) → min (length ps) (length qs) ≤ i
+    → front_order (map f (drop i ps)) (map f (drop i qs)) ≡ Equal
 mapped_all f ps qs i h =
     elim (cases_lt i (length ps)) [
       | inr k ↦ ap (λ xs. front_order (map f xs) (map f (drop i qs))) (drop_of_length-le ps k)

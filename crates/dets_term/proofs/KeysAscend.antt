@@ -3,12 +3,12 @@ use Rattle.std.proofs.Common.{◌≡◌, Bool, true, false, List, [], ◌∷◌,
 use Rattle.std.specs.List.{IsAllAdjacentAnswer}
 use Rattle.std.specs.declared.cmp.Ordering.TheVariants.{Less}
 use Rattle.std.specs.Ordering.{is_lt}
-use Rattle.dets_term.specs.TermValue.{TermValue, nil}
-use Rattle.dets_term.specs.Order.{order}
-use Rattle.dets_term.specs.IsTerm.{AreAscending}
-use Rattle.dets_term.specs.Pairs.{keys}
-use Rattle.dets_term.specs.Adjacent.{Adjacent, adjacent_from_places, places_from_adjacent}
-use Rattle.dets_term.specs.Sorting.{less-is}
+use Rattle.term_model.specs.TermValue.{TermValue, nil}
+use Rattle.term_model.specs.Order.{order}
+use Rattle.term_model.specs.IsTerm.{AreAscending}
+use Rattle.term_model.specs.Pairs.{keys}
+use Rattle.term_model.specs.Adjacent.{Adjacent, adjacent_from_places, places_from_adjacent}
+use Rattle.term_model.specs.Sorting.{less-is}
 
 abbrev Pair : Type 0
 Pair = TermValue × TermValue

@@ -2,13 +2,13 @@
 use Rattle.std.proofs.Common.{◌≡◌, ℕ, suc, ◌<◌, ◌≤◌, ◌^◌, true, false, ◌&&◌, cond, nat_lt, nat_le, Ok, Err, List, ◌⊎◌, inl, inr, length, ap, ◌∙◌, sym, arith}
 use Rattle.std.specs.List.Sorted.{IsPermutation}
 use Rattle.std.proofs.lemmas.Bool.{lt-ltb, le-ltb, and_right, and_left, cases_lt}
-use Rattle.dets_term.specs.declared.term.TermFault.{TermFault}
-use Rattle.dets_term.specs.declared.term.TermFault.TheVariants.{Depth, ManyParts, RepeatedKey}
-use Rattle.dets_term.specs.TermValue.{TermValue, map_of, parts_depth}
-use Rattle.dets_term.specs.IsTerm.{AreAscending, limited, built}
-use Rattle.dets_term.specs.Pairs.{keys, by_key, repeats, map_built}
+use Rattle.term_model.specs.declared.term_fault.TermFault.{TermFault}
+use Rattle.term_model.specs.declared.term_fault.TermFault.TheVariants.{Depth, ManyParts, RepeatedKey}
+use Rattle.term_model.specs.TermValue.{TermValue, map_of, parts_depth}
+use Rattle.term_model.specs.IsTerm.{AreAscending, limited, built}
+use Rattle.term_model.specs.Pairs.{keys, by_key, repeats, map_built}
 use Rattle.dets_term.proofs.Limited.{limited_ok, built_ok, built_err}
-use Rattle.dets_term.specs.PairSorts.{ascending_is_by_key}
+use Rattle.term_model.specs.PairSorts.{ascending_is_by_key}
 
 abbrev Pair : Type 0
 Pair = TermValue × TermValue
@@ -32,12 +32,14 @@ many_parts n levels x many = ap (λ b. cond b (cond (nat_le levels 256) (Ok x) (
 map_many : (ps : List Pair) → 2 ^ 32 ≤ length ps → Err ManyParts ≡ map_built ps
 map_many ps many =
     sym (
-    ap (λ b. cond b (Err RepeatedKey) (built (length ps) (map_of (by_key ps)))) (and_left (nat_lt (length ps) (2 ^ 32)) (repeats (keys ps)) (le-ltb (length ps) (2 ^ 32) many))
+    ap (λ b. cond b (Err RepeatedKey) (built (length ps) (map_of (by_key ps))))
+    (and_left (nat_lt (length ps) (2 ^ 32)) (repeats (keys ps)) (le-ltb (length ps) (2 ^ 32) many))
     ∙ many_parts (length ps) _ _ many
     )
 
 -- sorted pairs whose keys ascend, unless they are too many
-module _ (ps qs : List Pair) (moved : IsPermutation ps qs) (ascend : length ps < 2 ^ 32 → AreAscending (keys qs)) (d : ℕ) (depth : parts_depth (map_of qs) ≡ d) where
+module _ (ps qs : List Pair) (moved : IsPermutation ps qs) (ascend : length ps < 2 ^ 32 → AreAscending (keys qs)) (d : ℕ)
+    (depth : parts_depth (map_of qs) ≡ d) where
   pub map_ok : (n levels : ℕ) → n ≡ length ps → Ok levels ≡ limited n (suc d) (suc d) → Ok (map_of qs) ≡ map_built ps
   map_ok n levels size h =
       let few = limited_ok n (suc d) (suc d) levels (sym h) in

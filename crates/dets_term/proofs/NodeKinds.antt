@@ -5,10 +5,10 @@ use Rattle.std.specs.Prelude.{Box}
 use Rattle.std.specs.declared.alloc.Global.{Global}
 use Rattle.dets_term.specs.declared.term.Node.{Node}
 use Rattle.dets_term.specs.declared.term.Node.TheVariants.{Int, Atom, Tuple, Map, List as ListNode, Improper, Bits}
-use Rattle.dets_term.specs.TermValue.{TermValue, tuple, nil, chain, is_list, key}
+use Rattle.term_model.specs.TermValue.{TermValue, tuple, nil, chain, is_list, key}
 use Rattle.dets_term.specs.Parts.{elements-chain}
 use Rattle.dets_term.specs.Node.{shown, IsSound}
-use Rattle.dets_term.specs.Order.{order, rank}
+use Rattle.term_model.specs.Order.{order, rank}
 use Rattle.dets_term.proofs.Fronts.{unlike}
 
 -- the key of an object by its node
@@ -31,7 +31,8 @@ key_of_other (Improper (t ∷ ts) tail) keypos s other = refl
 key_of_other (Bits bytes used) keypos s other = refl
 
 -- a node that is neither a list nor an improper one shows no list
-pub is_list_of_other : (n : Node) → ((ts : List TermValue) → n ≡ ListNode ts → ⊥) → ((ts : List TermValue) (tail : Box TermValue Global) → n ≡ Improper ts tail → ⊥) → is_list (shown n) ≡ false
+pub is_list_of_other : (n : Node) → ((ts : List TermValue) → n ≡ ListNode ts → ⊥)
+    → ((ts : List TermValue) (tail : Box TermValue Global) → n ≡ Improper ts tail → ⊥) → is_list (shown n) ≡ false
 is_list_of_other (Int v) list improper = refl
 is_list_of_other (Atom name) list improper = refl
 is_list_of_other (Tuple parts) list improper = refl
@@ -67,7 +68,8 @@ kind_of-rank (Improper (t ∷ ts) tail) s = refl
 kind_of-rank (Bits bytes used) s = refl
 
 -- two values go by rank where their nodes are of two kinds
-pub order-kinds : {a b : TermValue} (m n : Node) → shown m ≡ a → shown n ≡ b → IsSound m → IsSound n → (kind m ≡ kind n → ⊥) → nat_cmp (rank a) (rank b) ≡ order a b
+pub order-kinds : {a b : TermValue} (m n : Node) → shown m ≡ a → shown n ≡ b → IsSound m → IsSound n → (kind m ≡ kind n → ⊥)
+    → nat_cmp (rank a) (rank b) ≡ order a b
 order-kinds {a} {b} m n va vb sm sn d =
     sym (unlike a b (λ e. d (sym (kind_of-rank m sm) ∙ ap kind_of (ap rank va ∙ e ∙ sym (ap rank vb)) ∙ kind_of-rank n sn)))
 
@@ -83,16 +85,19 @@ pub not_tuple : {m : Node} {parts : List TermValue} (n : Node) → m ≡ Tuple p
 not_tuple (Tuple parts) e h k = h parts refl
 not_tuple other e h k = absurd (let f : 2 ≡ kind other = sym (ap kind e) ∙ k in omega arith)
 
-pub not_map : {m : Node} {pairs : List (TermValue × TermValue)} (n : Node) → m ≡ Map pairs → ((others : List (TermValue × TermValue)) → n ≡ Map others → ⊥) → kind m ≡ kind n → ⊥
+pub not_map : {m : Node} {pairs : List (TermValue × TermValue)} (n : Node) → m ≡ Map pairs
+    → ((others : List (TermValue × TermValue)) → n ≡ Map others → ⊥) → kind m ≡ kind n → ⊥
 not_map (Map pairs) e h k = h pairs refl
 not_map other e h k = absurd (let f : 3 ≡ kind other = sym (ap kind e) ∙ k in omega arith)
 
-pub not_list : (m n : Node) → kind m ≡ 4 → ((parts : List TermValue) → n ≡ ListNode parts → ⊥) → ((parts : List TermValue) (tail : Box TermValue Global) → n ≡ Improper parts tail → ⊥) → kind m ≡ kind n → ⊥
+pub not_list : (m n : Node) → kind m ≡ 4 → ((parts : List TermValue) → n ≡ ListNode parts → ⊥)
+    → ((parts : List TermValue) (tail : Box TermValue Global) → n ≡ Improper parts tail → ⊥) → kind m ≡ kind n → ⊥
 not_list m (ListNode parts) e h i k = h parts refl
 not_list m (Improper parts tail) e h i k = i parts tail refl
 not_list m other e h i k = absurd (let f : 4 ≡ kind other = sym e ∙ k in omega arith)
 
-pub not_bits : {m : Node} {bytes : List ℕ} {used : ℕ} (n : Node) → m ≡ Bits bytes used → ((others : List ℕ) (other_used : ℕ) → n ≡ Bits others other_used → ⊥) → kind m ≡ kind n → ⊥
+pub not_bits : {m : Node} {bytes : List ℕ} {used : ℕ} (n : Node) → m ≡ Bits bytes used
+    → ((others : List ℕ) (other_used : ℕ) → n ≡ Bits others other_used → ⊥) → kind m ≡ kind n → ⊥
 not_bits (Bits bytes used) e h k = h bytes used refl
 not_bits other e h k = absurd (let f : 6 ≡ kind other = sym (ap kind e) ∙ k in omega arith)
 

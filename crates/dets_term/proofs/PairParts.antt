@@ -5,14 +5,15 @@ use Rattle.std.proofs.lemmas.List.{length-map}
 use Rattle.std.proofs.lemmas.List.Elements.{recursion_from_All, All-from_recursion}
 use Rattle.std.proofs.lemmas.List.Recursion.{max_bounds, max_least}
 use Rattle.std.proofs.lemmas.List.Sorted.{IsPermutation-sym, All-permutation}
-use Rattle.dets_term.specs.TermValue.{TermValue, nil, map_of, depth}
-use Rattle.dets_term.specs.IsTerm.{IsTerm, IsBounded, AreAscending}
+use Rattle.term_model.specs.TermValue.{TermValue, nil, map_of, depth}
+use Rattle.term_model.specs.IsTerm.{IsTerm, IsBounded, AreAscending}
 use Rattle.dets_term.specs.Parts.{AreTerms, ArePairs, deepest_of_pairs, elements-chain, IsProper-chain, IsBounded-chain}
-use Rattle.dets_term.specs.Pairs.{keys}
+use Rattle.term_model.specs.Pairs.{keys}
 
 pub ArePairs-permutation : (ps qs : List (TermValue × TermValue)) → IsPermutation ps qs → ArePairs ps → ArePairs qs
 ArePairs-permutation ps qs moved pairs =
-    recursion_from_All (λ p. IsTerm p.0 × IsTerm p.1) qs (All-permutation (λ p. IsTerm p.0 × IsTerm p.1) ps qs moved (All-from_recursion (λ p. IsTerm p.0 × IsTerm p.1) ps pairs))
+    recursion_from_All (λ p. IsTerm p.0 × IsTerm p.1) qs (All-permutation (λ p. IsTerm p.0 × IsTerm p.1) ps qs moved
+    (All-from_recursion (λ p. IsTerm p.0 × IsTerm p.1) ps pairs))
 
 -- the greater depth of a pair's two parts
 abbrev deeper : TermValue × TermValue → ℕ

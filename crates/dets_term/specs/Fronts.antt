@@ -3,8 +3,8 @@ use Rattle.std.specs.Prelude.{ℕ, List, [], ◌∷◌, map}
 use Rattle.std.specs.declared.cmp.Ordering.{Ordering}
 use Rattle.std.specs.declared.cmp.Ordering.TheVariants.{Equal}
 use Rattle.std.specs.Ordering.{nat_cmp, ordering_then, match_ordering}
-use Rattle.dets_term.specs.TermValue.{TermValue}
-use Rattle.dets_term.specs.Order.{order}
+use Rattle.term_model.specs.TermValue.{TermValue}
+use Rattle.term_model.specs.Order.{order}
 
 -- the first elements that differ, of those at the places that both lists have
 abbrev pub front_order : List TermValue → List TermValue → Ordering

@@ -2,8 +2,8 @@
 use Rattle.std.specs.Prelude.{◌≡◌, ◌<◌, false, length}
 use Rattle.dets_term.specs.declared.term.Node.{Node}
 use Rattle.dets_term.specs.declared.term.Node.TheVariants.{Int, Atom, Tuple, Map, List as ListNode, Improper, Bits}
-use Rattle.dets_term.specs.TermValue.{TermValue, integer, atom, tuple, nil, chain, map_of, bits, is_list}
-use Rattle.dets_term.specs.BitString.{bits_of, IsPadded}
+use Rattle.term_model.specs.TermValue.{TermValue, integer, atom, tuple, nil, chain, map_of, bits, is_list}
+use Rattle.term_model.specs.BitString.{bits_of, IsPadded}
 
 abbrev pub shown : Node → TermValue
 shown (Int v) = integer v

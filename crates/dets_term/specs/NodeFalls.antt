@@ -4,7 +4,7 @@ use Rattle.std.proofs.Common.{arith}
 use Rattle.dets_term.specs.declared.term.Node.{Node}
 use Rattle.dets_term.specs.declared.term.Node.TheVariants.{Int, Atom, Tuple, Map, List as ListNode, Improper, Bits}
 use Rattle.dets_term.specs.declared.pair_list.PairList.TheDeep.{deep-Node}
-use Rattle.dets_term.specs.TermValue.{depth}
+use Rattle.term_model.specs.TermValue.{depth}
 use Rattle.dets_term.specs.Node.{shown, IsSound}
 use Rattle.dets_term.specs.Parts.{parts_depth-chain, parts_depth-map_of, parts_depth-improper}
 

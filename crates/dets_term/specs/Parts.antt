@@ -3,8 +3,8 @@ use Rattle.std.specs.Prelude.{◌≡◌, ℕ, zero, suc, ◌+◌, ◌*◌, ◌<�
 use Rattle.std.specs.List.{AllByRecursion}
 use Rattle.std.proofs.Common.{arith, ap, ◌∙◌}
 use denote.Param.Weighed.{most}
-use Rattle.dets_term.specs.TermValue.{TermValue, integer, atom, tuple, mapping, nil, cons, bits, chain, map_of, elements, is_list, parts_depth, depth}
-use Rattle.dets_term.specs.IsTerm.{IsTerm, IsProper, IsBounded}
+use Rattle.term_model.specs.TermValue.{TermValue, integer, atom, tuple, mapping, nil, cons, bits, chain, map_of, elements, is_list, parts_depth, depth}
+use Rattle.term_model.specs.IsTerm.{IsTerm, IsProper, IsBounded}
 
 -- the greatest depth in a list of terms, 0 where it is empty
 abbrev pub deepest : List TermValue → ℕ
@@ -21,10 +21,12 @@ is_list-chain (t ∷ ts) = refl
 
 pub parts_depth-chain : (ts : List TermValue) → parts_depth (chain ts nil) ≡ deepest ts
 parts_depth-chain [] = refl
-parts_depth-chain (t ∷ ts) = ap (λ b. max (depth t) (cond b (parts_depth (chain ts nil)) (suc (parts_depth (chain ts nil))))) (is_list-chain ts) ∙ ap (max (depth t)) (parts_depth-chain ts)
+parts_depth-chain (t ∷ ts) = ap (λ b. max (depth t) (cond b (parts_depth (chain ts nil)) (suc (parts_depth (chain ts nil))))) (is_list-chain ts)
+    ∙ ap (max (depth t)) (parts_depth-chain ts)
 
 -- the depth of the parts of a list that ends in a tail which is none
-pub parts_depth-improper : (ts : List TermValue) (tail : TermValue) → 0 < length ts → is_list tail ≡ false → parts_depth (chain ts tail) ≡ max (deepest ts) (depth tail)
+pub parts_depth-improper : (ts : List TermValue) (tail : TermValue) → 0 < length ts → is_list tail ≡ false
+    → parts_depth (chain ts tail) ≡ max (deepest ts) (depth tail)
 parts_depth-improper [] tail h e = absurd (omega arith)
 parts_depth-improper (t ∷ []) tail h e = ap (λ b. max (depth t) (cond b (parts_depth tail) (suc (parts_depth tail)))) e ∙ omega arith
 parts_depth-improper (t ∷ u ∷ ts) tail h e =
@@ -92,7 +94,8 @@ abbrev pub deepest_of_pairs : List (TermValue × TermValue) → ℕ
 deepest_of_pairs [] = 0
 deepest_of_pairs (p ∷ ps) = max (max (depth p.0) (depth p.1)) (deepest_of_pairs ps)
 
-pub deepest_of_pairs-push : (ps : List (TermValue × TermValue)) (p : TermValue × TermValue) → deepest_of_pairs (ps ++ p ∷ []) ≡ max (deepest_of_pairs ps) (max (depth p.0) (depth p.1))
+pub deepest_of_pairs-push : (ps : List (TermValue × TermValue)) (p : TermValue × TermValue)
+    → deepest_of_pairs (ps ++ p ∷ []) ≡ max (deepest_of_pairs ps) (max (depth p.0) (depth p.1))
 deepest_of_pairs-push [] p = omega arith
 deepest_of_pairs-push (q ∷ ps) p = let rest = deepest_of_pairs-push ps p in omega arith
 

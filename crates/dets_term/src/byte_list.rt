@@ -1,5 +1,5 @@
 ghost use Rattle.std.specs.Prelude.{◌≡◌, ◌-◌, ◌%◌, ◌^◌, ◌≤◌, List, [], ◌∷◌, ◌++◌, take, length, IfOk, OnOk, OnErr, slice_get};
-ghost use Rattle.dets_term.specs.BitString.{byte_bits, bits_of, MayUse, IsPadded};
+ghost use Rattle.term_model.specs.BitString.{byte_bits, bits_of, MayUse, IsPadded};
 
 use crate::Memory;
 use std::alloc::Global;

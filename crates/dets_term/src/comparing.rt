@@ -4,8 +4,8 @@ ghost use Rattle.std.specs.Ordering.{as_partial_cmp};
 ghost use Rattle.std.proofs.Common.{rules};
 ghost use Rattle.std.proofs.lemmas.Cmp.{eq_by_cmp_equiv};
 ghost use Rattle.std.specs.Cmp.Rules.{comparing};
-ghost use Rattle.dets_term.specs.Order.{order, is_same};
-ghost use Rattle.dets_term.specs.OrderCode.{order_total};
+ghost use Rattle.term_model.specs.Order.{order, is_same};
+ghost use Rattle.term_model.specs.OrderCode.{order_total};
 
 use crate::order;
 use crate::term::Term;

@@ -1,5 +1,5 @@
 ghost use Rattle.std.specs.Prelude.{◌≡◌};
-ghost use Rattle.dets_term.specs.Hash.{hash_of};
+ghost use Rattle.term_model.specs.Hash.{hash_of};
 
 const BASIS: u32 = 2_166_136_261;
 

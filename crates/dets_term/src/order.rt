@@ -1,11 +1,11 @@
 //! The order of terms.
 ghost use Rattle.std.specs.Prelude.{◌≡◌, ℕ, ◌↔◌, IsTrue, length};
 ghost use Rattle.std.specs.Ordering.{nat_cmp, bool_cmp, ordering_then};
-ghost use Rattle.dets_term.specs.BitString.{bits_of, IsPadded};
+ghost use Rattle.term_model.specs.BitString.{bits_of, IsPadded};
 ghost use Rattle.std.specs.Cmp.Lexicographic.{slice_cmp};
-ghost use Rattle.dets_term.specs.Order.{order, rank};
+ghost use Rattle.term_model.specs.Order.{order, rank};
 ghost use Rattle.dets_term.specs.Fronts.{front_order, ends_order, values};
-ghost use Rattle.dets_term.specs.Pairs.{keys};
+ghost use Rattle.term_model.specs.Pairs.{keys};
 
 use crate::{Node, PairList, Term, TermList};
 use std::cmp::Ordering;

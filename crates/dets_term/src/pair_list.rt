@@ -1,9 +1,9 @@
 ghost use Rattle.std.specs.Prelude.{◌≡◌, List, [], ◌∷◌, ◌++◌, length, ◌↔◌, IsTrue, OnOk, OnErr, IfOk, slice_get};
 ghost use Rattle.std.specs.Option.{option_copied};
 ghost use Rattle.std.specs.List.Sorted.{IsPermutation, IsSortedByKey};
-ghost use Rattle.dets_term.specs.Order.{order};
-ghost use Rattle.dets_term.specs.IsTerm.{AreAscending};
-ghost use Rattle.dets_term.specs.Pairs.{keys};
+ghost use Rattle.term_model.specs.Order.{order};
+ghost use Rattle.term_model.specs.IsTerm.{AreAscending};
+ghost use Rattle.term_model.specs.Pairs.{keys};
 ghost use Rattle.dets_term.specs.Parts.{deepest_of_pairs, ArePairs};
 
 use crate::Memory;
@@ -24,7 +24,7 @@ pub struct PairList {
 impl Model for PairList {
     ghost use Rattle.std.specs.Prelude.{◌≡◌, ◌+◌, ◌*◌, List};
     ghost use Rattle.std.specs.Coded.{coded_list, coded×};
-    ghost use Rattle.dets_term.specs.TermValue.{TermValue};
+    ghost use Rattle.term_model.specs.TermValue.{TermValue};
     ghost use Rattle.dets_term.specs.TermCode.{coded_term};
 
     ghost Value = { List (TermValue × TermValue) };

@@ -1,16 +1,16 @@
-ghost use Rattle.std.specs.Prelude.{suc, ◌≡◌, ◌<◌, ◌*◌, ◌+◌, ◌↔◌, false, length, IfOk, IfErr, IsErrOf, ◌⊎◌};
+ghost use Rattle.std.specs.Prelude.{suc, ◌≡◌, ◌<◌, ◌*◌, ◌+◌, ◌↔◌, false, length, IfOk, IfErr, OnErr, IsErrOf, ◌⊎◌};
 ghost use Rattle.std.specs.Option.{option_copied};
 ghost use Rattle.std.specs.Str.{chars};
-ghost use Rattle.dets_term.specs.TermValue.{integer, atom, tuple, nil, chain, elements, is_list, depth, key};
-ghost use Rattle.dets_term.specs.IsTerm.{IsTerm, limited, built, bits_built};
-ghost use Rattle.dets_term.specs.BitString.{MayUse};
-ghost use Rattle.dets_term.specs.Pairs.{map_built};
+ghost use Rattle.term_model.specs.TermValue.{integer, atom, tuple, nil, chain, elements, is_list, depth, key};
+ghost use Rattle.term_model.specs.IsTerm.{IsTerm, limited, built, bits_built};
+ghost use Rattle.term_model.specs.BitString.{MayUse};
+ghost use Rattle.term_model.specs.Pairs.{map_built};
 ghost use Rattle.dets_term.specs.Parts.{deepest, AreTerms};
 ghost use Rattle.dets_term.specs.Node.{shown, IsSound};
-ghost use Rattle.dets_term.specs.declared.term.TermFault.TheVariants.{Memory as OutOfMemory};
+ghost use Rattle.term_model.specs.declared.term_fault.TermFault.TheVariants.{Memory as OutOfMemory};
 
 use crate::text::char_count;
-use crate::{ByteList, Memory, PairList, TermList, Text};
+use crate::{ByteList, Memory, PairList, TermFault, TermList, Text};
 use std::alloc::Global;
 use std::marker::Model;
 
@@ -40,44 +40,22 @@ pub struct Term {
     levels: u32,
 }
 
-/// Why a term was not built.
-#[derive(Clone, Copy, Debug, PartialEq, Eq)]
-pub enum TermFault {
-    /// It would have more than 256 levels.
-    Depth,
-    /// Two keys of a map would be equal.
-    RepeatedKey,
-    /// An atom would have more than 255 characters.
-    LongAtom,
-    /// A node would have 2^32 parts or bytes or more.
-    ManyParts,
-    Memory,
-}
-
 const MAX_DEPTH: u32 = 256;
 
 const MAX_PARTS: usize = 0xFFFF_FFFF;
 
 const MAX_ATOM: usize = 255;
 
-impl From<Memory> for TermFault {
-    ghost from_gives = { λ _ e. e ≡ OutOfMemory };
-
-    fn from(_error: Memory) -> TermFault {
-        TermFault::Memory
-    }
-}
-
 impl Model for Term {
     ghost use Rattle.std.specs.Prelude.{◌≡◌, ◌*◌};
-    ghost use Rattle.dets_term.specs.TermValue.{TermValue, depth};
+    ghost use Rattle.term_model.specs.TermValue.{TermValue, depth};
     ghost use Rattle.dets_term.specs.TermCode.{coded_term};
 
     ghost Value = { TermValue };
 
     ghost coded = { coded_term };
 
-    ghost use Rattle.dets_term.specs.IsTerm.{IsTerm};
+    ghost use Rattle.term_model.specs.IsTerm.{IsTerm};
     ghost use Rattle.dets_term.specs.Node.{shown, IsSound};
 
     ghost view = { λ a. shown a.node };
@@ -231,6 +209,19 @@ impl Term {
         ensures term { IsTerm self.now }
     {
         self.levels
+    }
+}
+
+/// What building a term within its limits answered: the term, or want of memory.
+pub fn within_limits(made: Result<Term, TermFault>) -> Result<Term, Memory>
+    requires { IfErr made (λ fault. fault ≡ TermFault.Memory) }
+    ensures ok { IfOk result (λ term. made ≡ Ok term) }
+    ensures memory { OnErr result (made ≡ Err TermFault.Memory) }
+{
+    match made {
+        Ok(term) => Ok(term),
+        Err(TermFault::Memory) => Err(Memory),
+        Err(_) => unreachable!(),
     }
 }
 

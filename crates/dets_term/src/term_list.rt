@@ -19,7 +19,7 @@ pub struct TermList {
 impl Model for TermList {
     ghost use Rattle.std.specs.Prelude.{◌≡◌, ◌+◌, ◌*◌, List};
     ghost use Rattle.std.specs.Coded.{coded_list};
-    ghost use Rattle.dets_term.specs.TermValue.{TermValue};
+    ghost use Rattle.term_model.specs.TermValue.{TermValue};
     ghost use Rattle.dets_term.specs.TermCode.{coded_term};
 
     ghost Value = { List TermValue };

@@ -2,7 +2,7 @@
 use Rattle.std.proofs.Common.{◌≡◌, ℕ, suc, ◌<◌, ◌≤◌, ◌^◌, max, Bool, true, false, cond, ◌&&◌, List, [], ◌∷◌, length, Ok, Err, nat_lt, refl, ap, ◌∙◌, arith}
 use Rattle.std.proofs.lemmas.Bool.Decides.{nat_tests}
 use Rattle.std.specs.Ordering.{is_lt}
-use Rattle.dets_term.specs.declared.term.TermFault.TheVariants.{RepeatedKey}
+use Rattle.dets_term.specs.declared.TermFault.TheVariants.{RepeatedKey}
 use Rattle.dets_term.specs.TermValue.{TermValue, map_of, depth}
 use Rattle.dets_term.specs.IsTerm.{built}
 use Rattle.dets_term.specs.Order.{order}

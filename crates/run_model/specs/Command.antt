@@ -2,7 +2,7 @@
 -- dets reference manual; the shape of commands is this project's own.
 use Rattle.std.specs.Prelude.{ℕ, Bool, true, false, cond, ◌&&◌, List, [], ◌∷◌, Option, Some, None, codes}
 use Rattle.std.specs.Str.{bytes_eq}
-use Rattle.dets_term.specs.TermValue.{TermValue, atom, tuple, nil, elements}
+use Rattle.term_model.specs.TermValue.{TermValue, atom, tuple, nil, elements}
 
 -- a command that is built, with its argument
 pub data Command : Type 0 where
@@ -35,15 +35,15 @@ operation name argument =
     (cond (bytes_eq name (codes "lookup")) (Some (look_up argument)) None))
 
 -- the same of a client and an operation that may be no atoms
-abbrev pub asked : TermValue → TermValue → TermValue → Option Command
-asked (atom client) (atom name) argument = operation name argument
-asked client name argument = None
+abbrev pub of_three_parts : TermValue → TermValue → TermValue → Option Command
+of_three_parts (atom client) (atom name) argument = operation name argument
+of_three_parts client name argument = None
 
 abbrev pub of_parts : List TermValue → Option Command
 of_parts [] = None
 of_parts (a ∷ []) = None
 of_parts (a ∷ b ∷ []) = None
-of_parts (client ∷ name ∷ argument ∷ []) = asked client name argument
+of_parts (client ∷ name ∷ argument ∷ []) = of_three_parts client name argument
 of_parts (a ∷ b ∷ c ∷ d ∷ more) = None
 
 -- the command that a term is, if it is one that is built

@@ -1,6 +1,6 @@
 -- The state of a server between two commands.
 use Rattle.std.specs.Prelude.{Bool, false}
-use Rattle.dets_term.specs.declared.kind.Kind.TheVariants.{Set}
+use Rattle.term_model.specs.declared.kind.Kind.TheVariants.{Set}
 use Rattle.table_model.specs.Table.{Table, empty_table}
 
 pub record State : Type 0 where

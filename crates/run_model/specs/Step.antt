@@ -1,7 +1,7 @@
 -- The step: the reply to a command and the state after it. The replies are those of the dets reference manual.
 use Rattle.std.specs.Prelude.{true, false, cond, List, [], ◌∷◌, Option, Some, None, codes, option_and_then}
 use Rattle.std.specs.Option.{option_map_or}
-use Rattle.dets_term.specs.TermValue.{TermValue, atom, tuple, nil, chain}
+use Rattle.term_model.specs.TermValue.{TermValue, atom, tuple, nil, chain}
 use Rattle.table_model.specs.Table.{insert_object, objects_of}
 use Rattle.run_model.specs.Command.{Command, open_table, insert_one, look_up, command_of}
 use Rattle.run_model.specs.State.{State}

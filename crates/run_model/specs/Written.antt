@@ -1,8 +1,8 @@
 -- Commands in few words, as worked rows write them. This project's own.
 use Prim.Native.String.{String}
 use Rattle.std.specs.Prelude.{[], ◌∷◌}
-use Rattle.dets_term.specs.TermValue.{TermValue, nil}
-use Rattle.dets_term.specs.Written.{word, tuple_of}
+use Rattle.term_model.specs.TermValue.{TermValue, nil}
+use Rattle.term_model.specs.Written.{word, tuple_of}
 
 -- {Client,Op,Argument}
 abbrev pub command : String → String → TermValue → TermValue

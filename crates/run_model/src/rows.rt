@@ -1,8 +1,8 @@
 //! Worked rows of the definitions, as contracts of functions that do nothing.
 ghost use Rattle.std.specs.Prelude.{◌≡◌, ℕ, List, [], ◌∷◌, Some, None, codes, pos, true};
-ghost use Rattle.dets_term.specs.TermValue.{TermValue, integer, atom, tuple, nil, chain};
-ghost use Rattle.dets_term.specs.Written.{word, number, tuple_of, list_of, pair};
-ghost use Rattle.dets_term.specs.declared.kind.Kind.TheVariants.{Set};
+ghost use Rattle.term_model.specs.TermValue.{TermValue, integer, atom, tuple, nil, chain};
+ghost use Rattle.term_model.specs.Written.{word, number, tuple_of, list_of, pair};
+ghost use Rattle.term_model.specs.declared.kind.Kind.TheVariants.{Set};
 ghost use Rattle.table_model.specs.Filled.{filled};
 ghost use Rattle.run_model.specs.Command.{command_of, open_table, insert_one, look_up};
 ghost use Rattle.run_model.specs.State.{first_state};
@@ -87,6 +87,7 @@ pub fn other_terms_are_no_commands_yet()
 /// After the exit of all clients the table is closed, and an opening finds its objects again.
 pub fn the_table_stays_after_the_exit_of_all_clients()
     ensures closed { replies (after_exit (record { table = filled Set 1 (pair (word "k") (number 1) ∷ []); is_open = true })) (looks_up (word "k") ∷ []) ≡ [] }
-    ensures opened_again { replies (after_exit (record { table = filled Set 1 (pair (word "k") (number 1) ∷ []); is_open = true })) (opens ∷ looks_up (word "k") ∷ [])
+    ensures opened_again { replies (after_exit (record { table = filled Set 1 (pair (word "k") (number 1) ∷ []); is_open = true }))
+        (opens ∷ looks_up (word "k") ∷ [])
         ≡ ok_table ∷ list_of (pair (word "k") (number 1) ∷ []) ∷ [] }
 {}

@@ -1,9 +1,9 @@
 -- Small tables that worked rows look into.
 use Rattle.std.specs.Prelude.{ℕ, [], ◌∷◌, List, fold}
-use Rattle.dets_term.specs.TermValue.{TermValue}
-use Rattle.dets_term.specs.Written.{word, number, pair}
-use Rattle.dets_term.specs.declared.kind.Kind.{Kind}
-use Rattle.dets_term.specs.declared.kind.Kind.TheVariants.{Set, Bag, DuplicateBag}
+use Rattle.term_model.specs.TermValue.{TermValue}
+use Rattle.term_model.specs.Written.{word, number, pair}
+use Rattle.term_model.specs.declared.kind.Kind.{Kind}
+use Rattle.term_model.specs.declared.kind.Kind.TheVariants.{Set, Bag, DuplicateBag}
 use Rattle.table_model.specs.Table.{Table, empty_table, insert_object}
 
 -- a table in which these objects were inserted, in order

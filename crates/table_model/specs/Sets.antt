@@ -1,11 +1,11 @@
 -- Lemmas: a set after an object is inserted.
 use Rattle.std.proofs.Common.{◌≡◌, ℕ, Bool, true, false, cond, not, List, [], ◌∷◌, ◌++◌, filter, Option, Some, refl, ap, ◌∙◌}
 use Rattle.std.proofs.lemmas.List.Elements.{filter-append}
-use Rattle.dets_term.specs.TermValue.{TermValue, key}
-use Rattle.dets_term.specs.Sorted.{ascending}
-use Rattle.dets_term.specs.Same.{same_self}
-use Rattle.dets_term.specs.declared.kind.Kind.{Kind}
-use Rattle.dets_term.specs.declared.kind.Kind.TheVariants.{Set}
+use Rattle.term_model.specs.TermValue.{TermValue, key}
+use Rattle.term_model.specs.Sorted.{ascending}
+use Rattle.term_model.specs.Same.{same_self}
+use Rattle.term_model.specs.declared.kind.Kind.{Kind}
+use Rattle.term_model.specs.declared.kind.Kind.TheVariants.{Set}
 use Rattle.table_model.specs.Table.{Table, has_key, is_key, shares_key, objects_of, with_object, insert_object}
 
 others_by : (p : TermValue → Bool) (b : Bool) (y : TermValue) (kept : List TermValue) → p y ≡ b → filter p kept ≡ []

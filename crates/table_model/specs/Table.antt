@@ -1,11 +1,11 @@
 -- A table of the dets reference manual: it has a kind, a position of the key, and a list of objects.
 use Rattle.std.specs.Prelude.{ℕ, Bool, false, cond, not, List, [], ◌∷◌, ◌++◌, filter, Option, Some, None}
 use Rattle.std.specs.List.{list_any}
-use Rattle.dets_term.specs.TermValue.{TermValue, key}
-use Rattle.dets_term.specs.Order.{is_same}
-use Rattle.dets_term.specs.Sorted.{ascending}
-use Rattle.dets_term.specs.declared.kind.Kind.{Kind}
-use Rattle.dets_term.specs.declared.kind.Kind.TheVariants.{Set, Bag, DuplicateBag}
+use Rattle.term_model.specs.TermValue.{TermValue, key}
+use Rattle.term_model.specs.Order.{is_same}
+use Rattle.term_model.specs.Sorted.{ascending}
+use Rattle.term_model.specs.declared.kind.Kind.{Kind}
+use Rattle.term_model.specs.declared.kind.Kind.TheVariants.{Set, Bag, DuplicateBag}
 
 pub record Table : Type 0 where
   pub kind : Kind

@@ -1,9 +1,9 @@
 //! Laws of the definitions, as contracts of functions that do nothing.
 ghost use Rattle.std.specs.Prelude.{◌≡◌, [], ◌∷◌, Some, filter};
 ghost use Rattle.std.specs.List.Sorted.{IsPermutation, IsSorted};
-ghost use Rattle.dets_term.specs.TermValue.{TermValue, key};
-ghost use Rattle.dets_term.specs.Order.{order};
-ghost use Rattle.dets_term.specs.declared.kind.Kind.TheVariants.{Set};
+ghost use Rattle.term_model.specs.TermValue.{TermValue, key};
+ghost use Rattle.term_model.specs.Order.{order};
+ghost use Rattle.term_model.specs.declared.kind.Kind.TheVariants.{Set};
 ghost use Rattle.table_model.specs.Table.{Table, has_key, objects_of, insert_object};
 
 /// The objects of a key are the table's objects with that key, each as often as it is there, and none is less than the

@@ -1,5 +1,5 @@
 //! Definitions of what a table is, which the crates above cite: its kind, its objects, and what each operation
-//! makes of them. It stands on `dets_term`, promises laws of these definitions, and compares them with worked rows.
+//! makes of them. It stands on `term_model`, promises laws of these definitions, and compares them with worked rows.
 #![tactic(auto)]
 
 pub use laws::{a_set_has_one_object_of_a_key, the_objects_of_a_key_ascend};

@@ -1,8 +1,8 @@
 //! Worked rows of the definitions, as contracts of functions that do nothing.
 ghost use Rattle.std.specs.Prelude.{◌≡◌, [], ◌∷◌, true, false};
-ghost use Rattle.dets_term.specs.TermValue.{nil};
-ghost use Rattle.dets_term.specs.Written.{word, number, tuple_of, list_of, pair};
-ghost use Rattle.dets_term.specs.declared.kind.Kind.TheVariants.{Set, Bag, DuplicateBag};
+ghost use Rattle.term_model.specs.TermValue.{nil};
+ghost use Rattle.term_model.specs.Written.{word, number, tuple_of, list_of, pair};
+ghost use Rattle.term_model.specs.declared.kind.Kind.TheVariants.{Set, Bag, DuplicateBag};
 ghost use Rattle.table_model.specs.Table.{empty_table, has_key, objects_of};
 ghost use Rattle.table_model.specs.Filled.{filled, numbered_set, second_place_set, small_bag, small_duplicate_bag};
 
@@ -27,7 +27,8 @@ pub fn a_duplicate_bag_keeps_equal_objects()
 pub fn the_objects_of_a_key_ascend_in_a_bag()
     ensures bag { objects_of (filled Bag 1 (pair (word "a") (number 2) ∷ pair (word "a") (number 1) ∷ [])) (word "a")
         ≡ pair (word "a") (number 1) ∷ pair (word "a") (number 2) ∷ [] }
-    ensures other_keys_between { objects_of (filled Bag 1 (pair (word "a") (number 2) ∷ pair (word "b") (number 3) ∷ pair (word "a") (number 1) ∷ [])) (word "a")
+    ensures other_key_between { objects_of
+        (filled Bag 1 (pair (word "a") (number 2) ∷ pair (word "b") (number 3) ∷ pair (word "a") (number 1) ∷ [])) (word "a")
         ≡ pair (word "a") (number 1) ∷ pair (word "a") (number 2) ∷ [] }
     ensures smaller_tuple_first { objects_of (filled Bag 1 (tuple_of (word "a" ∷ number 1 ∷ number 1 ∷ []) ∷ pair (word "a") (word "z") ∷ [])) (word "a")
         ≡ pair (word "a") (word "z") ∷ tuple_of (word "a" ∷ number 1 ∷ number 1 ∷ []) ∷ [] }

@@ -1,8 +1,8 @@
 -- Terms within their limits are built.
 use Rattle.std.proofs.Common.{◌≡◌, ℕ, ◌<◌, ◌≤◌, ◌^◌, cond, nat_le, Result, Ok, Err, IfErr, List, length, ap, ◌∙◌, sym, subst, arith}
 use Rattle.std.proofs.lemmas.Bool.{lt-ltb, le-leb}
-use Rattle.dets_term.specs.declared.term.TermFault.{TermFault}
-use Rattle.dets_term.specs.declared.term.TermFault.TheVariants.{Depth, ManyParts, Memory}
+use Rattle.dets_term.specs.declared.TermFault.{TermFault}
+use Rattle.dets_term.specs.declared.TermFault.TheVariants.{Depth, ManyParts, Memory}
 use Rattle.dets_term.specs.TermValue.{TermValue, chain, nil, parts_depth, depth}
 use Rattle.dets_term.specs.IsTerm.{built}
 use Rattle.dets_term.specs.Parts.{deepest, parts_depth-chain}

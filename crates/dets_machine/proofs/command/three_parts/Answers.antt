@@ -8,7 +8,8 @@ use Rattle.dets_machine.proofs.command.three_parts.Goals.{in_default-via-in-Tupl
 
 pub returns-in_ok-get-in-Tuple-3-clause-parts : goal.returns-in_ok-get-in-Tuple-3-clause-parts
 returns-in_ok-get-in-Tuple-3-clause-parts c =
-    let whole = three c.in-Tuple.parts _ _ _ (sym c.len.ensures ∙ c.if-len-eq3.true) c.in_ok-get-in-Tuple.ensures c.in_ok-get-in-Tuple-2.ensures c.in_ok-get-in-Tuple-3.ensures in
+    let whole = three c.in-Tuple.parts _ _ _ (sym c.len.ensures ∙ c.if-len-eq3.true) c.in_ok-get-in-Tuple.ensures c.in_ok-get-in-Tuple-2.ensures
+    c.in_ok-get-in-Tuple-3.ensures in
     sym c.node.ensures.value ∙ ap shown c.in-Tuple.is ∙ ap (λ (ts : List TermValue). tuple (chain ts nil)) whole
 
 pub returns-in_default-clause-other : goal.returns-in_default-clause-other

@@ -1,6 +1,10 @@
-use Rattle.std.proofs.Common.{◌∙◌, sym}
-use Rattle.dets_machine.proofs.Limits.{list_of_few, only_memory}
+use Rattle.std.proofs.Common.{length, arith}
+use Rattle.dets_term.specs.TermValue.{chain, nil}
+use Rattle.dets_term.specs.Limits.{built_or_memory}
+use Rattle.dets_term.specs.Parts.{parts_depth-chain}
 use Rattle.dets_machine.proofs.reply.list.Goals as goal
 
-pub built-requires : goal.built-requires
-built-requires c = only_memory c.list.result _ (list_of_few c.args.found c.requires.few c.requires.shallow ∙ sym c.list.ensures)
+pub within_limits-requires : goal.within_limits-requires
+within_limits-requires c =
+    built_or_memory (length c.args.found) (chain c.args.found nil) c.list.result (omega (arith, c.requires.few))
+    (omega (arith, c.requires.shallow, parts_depth-chain c.args.found)) c.list.ensures

@@ -1,5 +1,5 @@
 use Rattle.std.proofs.Common.{◌≡◌, drop}
-use Rattle.dets_term.specs.Hash.{hash_after, hash_of}
+use Rattle.term_model.specs.Hash.{hash_after, hash_of}
 use Rattle.dets_term.proofs.hash.hash_bytes.Given as goal
 
 -- the rest hashes on from here to the hash of the whole

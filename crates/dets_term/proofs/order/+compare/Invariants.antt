@@ -1,6 +1,6 @@
 use Rattle.std.proofs.Common.{◌≡◌, drop}
 use Rattle.dets_term.specs.Fronts.{front_order, values}
-use Rattle.dets_term.specs.Pairs.{keys}
+use Rattle.term_model.specs.Pairs.{keys}
 use Rattle.dets_term.proofs.order.+compare.Given as goal
 
 -- the terms so far are equal, so that the rest decides

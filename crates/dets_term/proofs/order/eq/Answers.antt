@@ -1,7 +1,7 @@
 use Rattle.std.proofs.Common.{◌≡◌, ◌∙◌, ap, sym}
 use Rattle.std.specs.Ordering.{is_eq}
-use Rattle.dets_term.specs.Order.{is_same}
-use Rattle.dets_term.specs.Same.{same_decides}
+use Rattle.term_model.specs.Order.{is_same}
+use Rattle.term_model.specs.Same.{same_decides}
 use Rattle.dets_term.proofs.order.eq.Goals as goal
 
 pub returns : goal.returns

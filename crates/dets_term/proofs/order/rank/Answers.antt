@@ -1,7 +1,7 @@
 use Rattle.std.proofs.Common.{◌∙◌, ap, sym, subst, arith}
-use Rattle.dets_term.specs.Order.{rank}
+use Rattle.term_model.specs.Order.{rank}
 use Rattle.dets_term.specs.Node.{shown, IsSound}
-use Rattle.dets_term.specs.TermValue.{nil}
+use Rattle.term_model.specs.TermValue.{nil}
 use Rattle.dets_term.proofs.NodeKinds.{rank-chain, rank-no_elements}
 use Rattle.dets_term.proofs.order.rank.Goals as goal
 
@@ -15,4 +15,5 @@ returns-else-len-eq0 c =
 
 pub returns-in-Improper : goal.returns-in-Improper
 returns-in-Improper c =
-    sym (ap rank (sym c.term.view_is ∙ ap shown c.in-Improper.is) ∙ rank-chain c.in-Improper.field-0 c.in-Improper.field-1.value (subst IsSound c.in-Improper.is c.term.invariant.2).0)
+    sym (ap rank (sym c.term.view_is ∙ ap shown c.in-Improper.is)
+    ∙ rank-chain c.in-Improper.field-0 c.in-Improper.field-1.value (subst IsSound c.in-Improper.is c.term.invariant.2).0)

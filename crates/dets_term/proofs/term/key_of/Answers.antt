@@ -1,5 +1,5 @@
 use Rattle.std.proofs.Common.{◌≡◌, ◌∙◌, sym, ap, arith}
-use Rattle.dets_term.specs.TermValue.{key, tuple, chain, nil}
+use Rattle.term_model.specs.TermValue.{key, tuple, chain, nil}
 use Rattle.dets_term.specs.Node.{shown}
 use Rattle.dets_term.proofs.NodeKinds.{key_of_tuple, key_of_other}
 use Rattle.dets_term.proofs.term.key_of.Goals as goal

@@ -1,5 +1,5 @@
 use Rattle.std.proofs.Common.{◌+◌, ◌≤◌, arith, sym, ap, ◌∙◌}
-use Rattle.dets_term.specs.declared.term.TermFault.TheVariants.{Memory}
+use Rattle.dets_term.specs.declared.TermFault.TheVariants.{Memory}
 use Rattle.dets_term.specs.TermValue.{chain, depth}
 use Rattle.etf_codec.specs.Machine.{resume}
 use Rattle.etf_codec.proofs.TermSteps.{built_list, depth-list_of, IfErr-either, or_else}

@@ -1,5 +1,5 @@
 use Rattle.std.specs.Prelude.{filter}
-use Rattle.dets_term.specs.Sorting.{IsPermutation-sorted_by, IsSortedByKey-sorted_by}
+use Rattle.term_model.specs.Sorting.{IsPermutation-sorted_by, IsSortedByKey-sorted_by}
 use Rattle.table_model.specs.Table.{has_key}
 use Rattle.table_model.proofs.laws.the_objects_of_a_key_ascend.Goals as goal
 

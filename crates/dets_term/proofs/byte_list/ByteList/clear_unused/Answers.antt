@@ -1,5 +1,5 @@
 use Rattle.std.proofs.Common.{true, false, ◌≡◌, ◌<◌, length, ap, ◌∙◌, sym, subst, arith, List, ℕ, [], ◌∷◌, refl}
-use Rattle.dets_term.specs.BitString.{bits_of, MayUse, IsPadded}
+use Rattle.term_model.specs.BitString.{bits_of, MayUse, IsPadded}
 use Rattle.dets_term.proofs.Cleared.{bits_of-set, IsPadded-set}
 use Rattle.dets_term.proofs.byte_list.ByteList.clear_unused.Goals as goal
 use Rattle.dets_term.proofs.byte_list.ByteList.clear_unused.Goals.{in-Some, in_default}
@@ -15,7 +15,8 @@ returns-clause-bits c =
       | in-Some w ↦
           let some = w.in-Some.ensures.variant.0 refl in
           rw w.self-inside-is
-          (bits_of-set c.self.inside.bytes.items _ _ _ _ (omega (arith, c.self.inside.bytes.ok.0)) w.in-Some.ensures.value w.front_bits.ensures.kept ∙ ap (λ bs. bits_of bs c.args.used) c.self.view_is)
+          (bits_of-set c.self.inside.bytes.items _ _ _ _ (omega (arith, c.self.inside.bytes.ok.0)) w.in-Some.ensures.value w.front_bits.ensures.kept
+          ∙ ap (λ bs. bits_of bs c.args.used) c.self.view_is)
       | in_default w ↦ rw w.self-inside-is (ap (λ bs. bits_of bs c.args.used) c.self.view_is)
     ]
 
@@ -26,5 +27,6 @@ returns-clause-padded c =
       | in-Some w ↦
           let some = w.in-Some.ensures.variant.0 refl in
           rw w.self-inside-is (IsPadded-set c.self.inside.bytes.items _ _ _ (omega (arith, c.self.inside.bytes.ok.0)) may w.front_bits.ensures.cleared)
-      | in_default w ↦ rw w.self-inside-is (padded-empty _ _ (λ h. let e : false ≡ true = w.in_default.ensures.variant.1 (omega (arith, c.self.inside.bytes.ok.0)) in cc) may)
+      | in_default w ↦ rw w.self-inside-is (padded-empty _ _
+          (λ h. let e : false ≡ true = w.in_default.ensures.variant.1 (omega (arith, c.self.inside.bytes.ok.0)) in cc) may)
     ]

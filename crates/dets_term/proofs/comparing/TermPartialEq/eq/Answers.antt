@@ -1,4 +1,4 @@
-use Rattle.dets_term.specs.Same.{same_by}
+use Rattle.term_model.specs.Same.{same_by}
 use Rattle.dets_term.proofs.comparing.TermPartialEq.eq.Goals as goal
 
 pub returns : goal.returns

@@ -1,9 +1,9 @@
 use Rattle.std.proofs.Common.{sym, ◌∙◌, rules, is_lt}
 use Rattle.std.proofs.lemmas.List.Sorted.{ranks_by, answers_always}
-use Rattle.dets_term.specs.TermValue.{TermValue}
-use Rattle.dets_term.specs.Order.{order}
+use Rattle.term_model.specs.TermValue.{TermValue}
+use Rattle.term_model.specs.Order.{order}
 use Rattle.dets_term.proofs.PairParts.{ArePairs-permutation, deepest_of_pairs-permutation}
-use Rattle.dets_term.specs.OrderCode.{order_total}
+use Rattle.term_model.specs.OrderCode.{order_total}
 use Rattle.dets_term.proofs.pair_list.PairList.sort_by_key.Goals as goal
 
 pub invariant_of-self : goal.invariant_of-self
@@ -13,4 +13,5 @@ invariant_of-self c =
 
 pub returns-clause-sorted : goal.returns-clause-sorted
 returns-clause-sorted c =
-    c.sort_unstable_by.ensures.sorted (λ p q. is_lt (order p.0 q.0)) (ranks_by order_total (λ (p : TermValue × TermValue). p.0)) (answers_always _ _ _ (λ f a r f' k. search rules))
+    c.sort_unstable_by.ensures.sorted (λ p q. is_lt (order p.0 q.0)) (ranks_by order_total (λ (p : TermValue × TermValue). p.0))
+    (answers_always _ _ _ (λ f a r f' k. search rules))

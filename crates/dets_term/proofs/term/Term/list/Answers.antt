@@ -1,6 +1,6 @@
 use Rattle.std.proofs.Common.{sym, ◌∙◌, ap, length, suc}
 use Rattle.std.proofs.lemmas.Result.{err_from_is_err_and}
-use Rattle.dets_term.specs.TermValue.{chain, nil}
+use Rattle.term_model.specs.TermValue.{chain, nil}
 use Rattle.dets_term.specs.Parts.{deepest, parts_depth-chain, IsBounded-chain}
 use Rattle.dets_term.proofs.Limited.{limited_ok, built_ok, built_err}
 use Rattle.dets_term.proofs.term.Term.list.Goals as goal
@@ -8,7 +8,8 @@ use Rattle.dets_term.proofs.term.Term.list.Goals as goal
 pub returns-in_err-levels : goal.returns-in_err-levels
 returns-in_err-levels c =
     let p = err_from_is_err_and c.from_residual.result c.from_residual.ensures.1 in
-    rw (p.1, p.2) (built_err (length c.args.parts) (deepest c.args.parts) (chain c.args.parts nil) _ (parts_depth-chain c.args.parts) c.in_err-levels.ensures.levels)
+    rw (p.1, p.2) (built_err (length c.args.parts) (deepest c.args.parts) (chain c.args.parts nil) _ (parts_depth-chain c.args.parts)
+    c.in_err-levels.ensures.levels)
 
 pub invariant_of-result : goal.invariant_of-result
 invariant_of-result c =

@@ -1,6 +1,6 @@
 use Rattle.std.proofs.Common.{◌≡◌, ◌++◌, false, sym, subst, ◌∙◌, ap, length, inr, refl}
-use Rattle.dets_term.specs.TermValue.{chain, nil, is_list}
-use Rattle.dets_term.specs.IsTerm.{IsTerm, built}
+use Rattle.term_model.specs.TermValue.{chain, nil, is_list}
+use Rattle.term_model.specs.IsTerm.{IsTerm, built}
 use Rattle.dets_term.specs.Parts.{elements-not_list}
 use Rattle.dets_term.specs.Node.{shown, IsSound}
 use Rattle.dets_term.proofs.Chains.{built-none, built-joined, built-ended}
@@ -24,7 +24,8 @@ returns-in_ok-append-in-Improper c =
     let tail : c.args.tail ≡ chain c.in-Improper.rest c.in-Improper.last.value = sym c.tail.view_is ∙ ap shown c.in-Improper.is in
     let sound = subst IsSound c.in-Improper.is c.tail.invariant.2 in
     let none = elements-not_list c.in-Improper.last.value sound.1 in
-    inr (c.improper.ensures ∙ built-joined c.args.parts c.in-Improper.rest _ c.in-Improper.last.value _ c.args.tail both (ap (λ b. b.value) c.in-Improper.last-is) tail none)
+    inr (c.improper.ensures ∙ built-joined c.args.parts c.in-Improper.rest _ c.in-Improper.last.value _ c.args.tail both
+    (ap (λ b. b.value) c.in-Improper.last-is) tail none)
 
 pub returns-in_ok-last-in_default : goal.returns-in_ok-last-in_default
 returns-in_ok-last-in_default c =

@@ -1,17 +1,18 @@
 use Rattle.std.proofs.Common.{◌≡◌, ◌<◌, ◌^◌, length, suc, sym, ◌∙◌, ap, arith}
 use Rattle.std.proofs.lemmas.Result.{err_from_is_err_and}
 use Rattle.std.proofs.lemmas.List.Sorted.{length_permutation}
-use Rattle.dets_term.specs.TermValue.{map_of, parts_depth}
-use Rattle.dets_term.specs.IsTerm.{AreAscending}
-use Rattle.dets_term.specs.Pairs.{keys}
+use Rattle.term_model.specs.TermValue.{map_of, parts_depth}
+use Rattle.term_model.specs.IsTerm.{AreAscending}
+use Rattle.term_model.specs.Pairs.{keys}
 use Rattle.dets_term.specs.Parts.{parts_depth-map_of}
 use Rattle.dets_term.proofs.Limited.{limited_ok}
 use Rattle.dets_term.proofs.PairParts.{IsBounded-map_of}
-use Rattle.dets_term.specs.Sorting.{in_order_from_sort}
-use Rattle.dets_term.specs.PairSorts.{repeats_unless_ascending}
+use Rattle.term_model.specs.Sorting.{in_order_from_sort}
+use Rattle.term_model.specs.PairSorts.{repeats_unless_ascending}
 use Rattle.dets_term.proofs.MapBuilt.{map_repeated, map_ok, map_err}
 use Rattle.dets_term.proofs.term.Term.map.Goals as goal
-use Rattle.dets_term.proofs.term.Term.map.Goals.{else-len-le-MAX_PARTS-via-then-len-le-MAX_PARTS+else-not-keys_ascend, else-len-le-MAX_PARTS-via-else-len-le-MAX_PARTS}
+use Rattle.dets_term.proofs.term.Term.map.Goals.{else-len-le-MAX_PARTS-via-then-len-le-MAX_PARTS+else-not-keys_ascend}
+use Rattle.dets_term.proofs.term.Term.map.Goals.{else-len-le-MAX_PARTS-via-else-len-le-MAX_PARTS}
 
 pub returns-then-not-keys_ascend : goal.returns-then-not-keys_ascend
 returns-then-not-keys_ascend c =
@@ -48,7 +49,11 @@ invariant_of-result c =
     ] in
     let limits = limited_ok c.len-2.result (suc c.levels.result) _ c.in_ok-levels.levels (sym c.in_ok-levels.ensures) in (
       sym limits.2 ∙ ap suc (sym depth),
-      record { shallow = omega (arith, limits.1); bounded = IsBounded-map_of _ (omega (arith, limits.0, c.len-2.ensures)) c.levels.ensures.pairs (told (omega (arith, limits.0))) },
+      record {
+        shallow = omega (arith, limits.1);
+        bounded = IsBounded-map_of _ (omega (arith, limits.0, c.len-2.ensures)) c.levels.ensures.pairs
+            (told (omega (arith, limits.0)));
+      },
       tt,
     )
 

@@ -4,11 +4,11 @@ use Rattle.std.specs.Prelude.{◌≡◌, ℕ, ◌*◌, ◌-◌, ◌<◌, ◌≤�
 use Rattle.std.specs.Int.{w128}
 use Rattle.std.specs.declared.cmp.Ordering.TheVariants.{Less}
 use Rattle.std.specs.Str.{all_scalars}
-use Rattle.dets_term.specs.declared.term.TermFault.{TermFault}
-use Rattle.dets_term.specs.declared.term.TermFault.TheVariants.{Depth, ManyParts}
-use Rattle.dets_term.specs.TermValue.{TermValue, integer, atom, tuple, mapping, nil, cons, bits, elements, depth}
-use Rattle.dets_term.specs.BitString.{bits_of}
-use Rattle.dets_term.specs.Order.{order}
+use Rattle.term_model.specs.declared.term_fault.TermFault.{TermFault}
+use Rattle.term_model.specs.declared.term_fault.TermFault.TheVariants.{Depth, ManyParts}
+use Rattle.term_model.specs.TermValue.{TermValue, integer, atom, tuple, mapping, nil, cons, bits, elements, depth}
+use Rattle.term_model.specs.BitString.{bits_of}
+use Rattle.term_model.specs.Order.{order}
 
 -- a proper list: it ends in nil
 abbrev pub IsProper : TermValue → Type 0

@@ -1,8 +1,8 @@
 -- Lists in order, each element by a term of its own.
 use Rattle.std.specs.Prelude.{cond, List, [], ◌∷◌}
 use Rattle.std.specs.Ordering.{is_lt}
-use Rattle.dets_term.specs.TermValue.{TermValue}
-use Rattle.dets_term.specs.Order.{order}
+use Rattle.term_model.specs.TermValue.{TermValue}
+use Rattle.term_model.specs.Order.{order}
 
 -- an element in front of the first one with a greater term
 abbrev pub placed_by : {A : Type 0} → (A → TermValue) → A → List A → List A

@@ -1,8 +1,8 @@
 -- Terms in few words, as worked rows write them. This project's own.
 use Prim.Native.String.{String}
 use Rattle.std.specs.Prelude.{ℕ, zero, suc, pos, List, [], ◌∷◌, codes}
-use Rattle.dets_term.specs.TermValue.{TermValue, integer, atom, tuple, nil, chain, bits}
-use Rattle.dets_term.specs.BitString.{bits_of}
+use Rattle.term_model.specs.TermValue.{TermValue, integer, atom, tuple, nil, chain, bits}
+use Rattle.term_model.specs.BitString.{bits_of}
 
 -- an atom by its name
 abbrev pub word : String → TermValue

@@ -2,12 +2,12 @@
 -- their order, and has each key once, as in the reference manual's chapter on maps.
 use Rattle.std.specs.Prelude.{◌^◌, Bool, false, cond, ◌&&◌, ◌||◌, nat_lt, List, [], ◌∷◌, map, length, Result, Err}
 use Rattle.std.specs.List.{list_any}
-use Rattle.dets_term.specs.declared.term.TermFault.{TermFault}
-use Rattle.dets_term.specs.declared.term.TermFault.TheVariants.{RepeatedKey}
-use Rattle.dets_term.specs.TermValue.{TermValue, map_of}
-use Rattle.dets_term.specs.Order.{is_same}
-use Rattle.dets_term.specs.Sorted.{placed_by, sorted_by}
-use Rattle.dets_term.specs.IsTerm.{built}
+use Rattle.term_model.specs.declared.term_fault.TermFault.{TermFault}
+use Rattle.term_model.specs.declared.term_fault.TermFault.TheVariants.{RepeatedKey}
+use Rattle.term_model.specs.TermValue.{TermValue, map_of}
+use Rattle.term_model.specs.Order.{is_same}
+use Rattle.term_model.specs.Sorted.{placed_by, sorted_by}
+use Rattle.term_model.specs.IsTerm.{built}
 
 abbrev pub keys : List (TermValue × TermValue) → List TermValue
 keys pairs = map (λ p. p.0) pairs

@@ -1,13 +1,13 @@
 //! Worked rows of the definitions, as contracts of functions that do nothing.
 ghost use Rattle.std.specs.Prelude.{◌≡◌, ◌-◌, ◌^◌, [], ◌∷◌, replicate, pos, negsuc, true, false, Some, None, Ok, Err};
 ghost use Rattle.std.specs.declared.cmp.Ordering.TheVariants.{Less, Equal, Greater};
-ghost use Rattle.dets_term.specs.TermValue.{integer, atom, tuple, mapping, nil, cons, chain, map_of, depth, key};
-ghost use Rattle.dets_term.specs.Order.{order, is_same};
-ghost use Rattle.dets_term.specs.Pairs.{map_built};
-ghost use Rattle.dets_term.specs.BitString.{bits_of, IsPadded};
-ghost use Rattle.dets_term.specs.IsTerm.{IsTerm, limited, built, bits_built};
-ghost use Rattle.dets_term.specs.Written.{word, number, tuple_of, list_of, pair, bytes, bit_string, boxed};
-ghost use Rattle.dets_term.specs.declared.term.TermFault.TheVariants.{Depth, ManyParts, RepeatedKey};
+ghost use Rattle.term_model.specs.TermValue.{integer, atom, tuple, mapping, nil, cons, chain, map_of, depth, key};
+ghost use Rattle.term_model.specs.Order.{order, is_same};
+ghost use Rattle.term_model.specs.Pairs.{map_built};
+ghost use Rattle.term_model.specs.BitString.{bits_of, IsPadded};
+ghost use Rattle.term_model.specs.IsTerm.{IsTerm, limited, built, bits_built};
+ghost use Rattle.term_model.specs.Written.{word, number, tuple_of, list_of, pair, bytes, bit_string, boxed};
+ghost use Rattle.term_model.specs.declared.term_fault.TermFault.TheVariants.{Depth, ManyParts, RepeatedKey};
 
 /// A term without parts has one level.
 pub fn a_term_without_parts_has_depth_1()
@@ -135,9 +135,11 @@ pub fn tuples_go_by_size_and_then_by_elements()
 pub fn maps_go_by_size_then_keys_then_values()
     ensures size { order (map_of ((number 9, number 9) ∷ [])) (map_of ((number 1, number 1) ∷ (number 2, number 1) ∷ [])) ≡ Less }
     ensures keys { order (map_of ((number 1, number 9) ∷ [])) (map_of ((number 2, number 1) ∷ [])) ≡ Less }
-    ensures last_key_before_first_value { order (map_of ((number 1, number 9) ∷ (number 2, number 1) ∷ [])) (map_of ((number 1, number 1) ∷ (number 3, number 1) ∷ [])) ≡ Less }
+    ensures last_key_before_first_value { order (map_of ((number 1, number 9) ∷ (number 2, number 1) ∷ []))
+        (map_of ((number 1, number 1) ∷ (number 3, number 1) ∷ [])) ≡ Less }
     ensures values { order (map_of ((number 1, number 2) ∷ [])) (map_of ((number 1, number 1) ∷ [])) ≡ Greater }
-    ensures values_by_ascending_key { order (map_of ((number 1, number 1) ∷ (number 2, number 9) ∷ [])) (map_of ((number 1, number 2) ∷ (number 2, number 1) ∷ [])) ≡ Less }
+    ensures values_by_ascending_key { order (map_of ((number 1, number 1) ∷ (number 2, number 9) ∷ []))
+        (map_of ((number 1, number 2) ∷ (number 2, number 1) ∷ [])) ≡ Less }
 {}
 
 /// Lists go by their first element, then by what follows it; their lengths do not count.

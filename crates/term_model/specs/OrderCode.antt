@@ -7,14 +7,14 @@ use Rattle.std.specs.Cmp.{IsTotalOrder}
 use Rattle.std.specs.Cmp.Lexicographic.{slice_cmp}
 use Rattle.std.proofs.lemmas.Bool.Decides.{nat_tests}
 use Rattle.std.proofs.lemmas.Cmp.{lists_total, on_total, int_cmp_total}
-use Rattle.dets_term.specs.TermValue.{TermValue, integer, atom, tuple, mapping, nil, cons, bits, elements}
-use Rattle.dets_term.specs.Order.{order, by_count}
-use Rattle.dets_term.specs.Orderings.{then_assoc, then_equal, nat_cmp-zero-suc, nat_cmp-suc-zero, nat_cmp-suc}
+use Rattle.term_model.specs.TermValue.{TermValue, integer, atom, tuple, mapping, nil, cons, bits, elements}
+use Rattle.term_model.specs.Order.{order, by_count}
+use Rattle.term_model.specs.Orderings.{then_assoc, then_equal, nat_cmp-zero-suc, nat_cmp-suc-zero, nat_cmp-suc}
 
 -- numbers, each one more, and 0 at their end
-abbrev spelled : List ℕ → List ℤ → List ℤ
-spelled [] after = pos 0 ∷ after
-spelled (x ∷ xs) after = pos (suc x) ∷ spelled xs after
+abbrev number_code : List ℕ → List ℤ → List ℤ
+number_code [] after = pos 0 ∷ after
+number_code (x ∷ xs) after = pos (suc x) ∷ number_code xs after
 
 abbrev digit : Bool → ℕ
 digit b = cond b 1 0
@@ -25,22 +25,23 @@ count ts = pos (length (elements ts))
 -- the code of a value in front of what follows it
 abbrev code : TermValue → List ℤ → List ℤ
 code (integer z) after = pos 0 ∷ z ∷ after
-code (atom name) after = pos 1 ∷ spelled name after
+code (atom name) after = pos 1 ∷ number_code name after
 code (tuple parts) after = pos 2 ∷ count parts ∷ code parts after
 code (mapping keys values) after = pos 3 ∷ count keys ∷ code keys (code values after)
 code nil after = pos 4 ∷ after
 code (cons first rest) after = pos 5 ∷ code first (code rest after)
-code (bits bs) after = pos 6 ∷ spelled (map digit bs) after
+code (bits bs) after = pos 6 ∷ number_code (map digit bs) after
 
 pos_order : (m n : ℕ) → int_cmp (pos m) (pos n) ≡ nat_cmp m n
 pos_order m n = grind (arith, nat_tests)
 
-spelled_order : (xs ys : List ℕ) (r s : List ℤ) → slice_cmp int_cmp (spelled xs r) (spelled ys s) ≡ ordering_then (slice_cmp nat_cmp xs ys) (slice_cmp int_cmp r s)
-spelled_order [] [] r s = refl
-spelled_order [] (y ∷ ys) r s = ap (λ o. ordering_then o (slice_cmp int_cmp r (spelled ys s))) (pos_order 0 (suc y) ∙ nat_cmp-zero-suc y)
-spelled_order (x ∷ xs) [] r s = ap (λ o. ordering_then o (slice_cmp int_cmp (spelled xs r) s)) (pos_order (suc x) 0 ∙ nat_cmp-suc-zero x)
-spelled_order (x ∷ xs) (y ∷ ys) r s =
-    (λ i. ordering_then ((pos_order (suc x) (suc y) ∙ nat_cmp-suc x y) i) (spelled_order xs ys r s i))
+number_code_order : (xs ys : List ℕ) (r s : List ℤ) → slice_cmp int_cmp (number_code xs r) (number_code ys s)
+    ≡ ordering_then (slice_cmp nat_cmp xs ys) (slice_cmp int_cmp r s)
+number_code_order [] [] r s = refl
+number_code_order [] (y ∷ ys) r s = ap (λ o. ordering_then o (slice_cmp int_cmp r (number_code ys s))) (pos_order 0 (suc y) ∙ nat_cmp-zero-suc y)
+number_code_order (x ∷ xs) [] r s = ap (λ o. ordering_then o (slice_cmp int_cmp (number_code xs r) s)) (pos_order (suc x) 0 ∙ nat_cmp-suc-zero x)
+number_code_order (x ∷ xs) (y ∷ ys) r s =
+    (λ i. ordering_then ((pos_order (suc x) (suc y) ∙ nat_cmp-suc x y) i) (number_code_order xs ys r s i))
     ∙ sym (then_assoc (nat_cmp x y) (slice_cmp nat_cmp xs ys) (slice_cmp int_cmp r s))
 
 digit_order : (x y : Bool) → nat_cmp (digit x) (digit y) ≡ bool_cmp x y
@@ -57,7 +58,7 @@ digits_order (x ∷ xs) (y ∷ ys) = λ i. ordering_then (digit_order x y i) (di
 
 code_order : (a b : TermValue) (r s : List ℤ) → slice_cmp int_cmp (code a r) (code b s) ≡ ordering_then (order a b) (slice_cmp int_cmp r s)
 code_order (integer y) (integer z) r s = refl
-code_order (atom a) (atom b) r s = spelled_order a b r s
+code_order (atom a) (atom b) r s = number_code_order a b r s
 code_order (tuple ts) (tuple us) r s =
     (λ i. ordering_then (pos_order (length (elements ts)) (length (elements us)) i) (code_order ts us r s i))
     ∙ sym (then_assoc (by_count ts us) (order ts us) (slice_cmp int_cmp r s))
@@ -72,7 +73,7 @@ code_order (cons t ts) (cons u us) r s =
     ∙ ap (ordering_then (order t u)) (code_order ts us r s)
     ∙ sym (then_assoc (order t u) (order ts us) (slice_cmp int_cmp r s))
 code_order (bits a) (bits b) r s =
-    spelled_order (map digit a) (map digit b) r s ∙ ap (λ o. ordering_then o (slice_cmp int_cmp r s)) (digits_order a b)
+    number_code_order (map digit a) (map digit b) r s ∙ ap (λ o. ordering_then o (slice_cmp int_cmp r s)) (digits_order a b)
 code_order a b r s = refl
 
 by_code : (a b : TermValue) → slice_cmp int_cmp (code a []) (code b []) ≡ order a b

@@ -11,7 +11,8 @@ abbrev pub Adjacent : {X : Type 0} → (X → X → Type 0) → List X → Type 
 Adjacent R [] = Unit {0}
 Adjacent R (x ∷ xs) = Starts R x xs × Adjacent R xs
 
-pub adjacent_from_places : {X : Type 0} (R : X → X → Type 0) (xs : List X) → ((k : ℕ) (d : X) → k + 1 < length xs → R (get_or xs k d) (get_or xs (k + 1) d)) → Adjacent R xs
+pub adjacent_from_places : {X : Type 0} (R : X → X → Type 0) (xs : List X)
+    → ((k : ℕ) (d : X) → k + 1 < length xs → R (get_or xs k d) (get_or xs (k + 1) d)) → Adjacent R xs
 adjacent_from_places R [] h = tt
 adjacent_from_places R (x ∷ []) h = (tt, tt)
 adjacent_from_places R (x ∷ y ∷ ys) h = (
@@ -21,7 +22,8 @@ adjacent_from_places R (x ∷ y ∷ ys) h = (
       subst (λ n. R (get_or (y ∷ ys) k d) (get_or (x ∷ y ∷ ys) n d)) next (h (suc k) d (omega arith))),
 )
 
-pub places_from_adjacent : {X : Type 0} (R : X → X → Type 0) (xs : List X) → Adjacent R xs → (k : ℕ) (d : X) → k + 1 < length xs → R (get_or xs k d) (get_or xs (k + 1) d)
+pub places_from_adjacent : {X : Type 0} (R : X → X → Type 0) (xs : List X) → Adjacent R xs → (k : ℕ) (d : X) → k + 1 < length xs
+    → R (get_or xs k d) (get_or xs (k + 1) d)
 places_from_adjacent R [] a k d l = absurd (omega arith)
 places_from_adjacent R (x ∷ []) a k d l = absurd (omega arith)
 places_from_adjacent R (x ∷ y ∷ ys) a zero d l = a.0

@@ -3,9 +3,9 @@ ghost use Rattle.std.specs.Prelude.{◌≡◌, ◌↔◌, IsTrue, List};
 ghost use Rattle.std.specs.Cmp.{IsTotalOrder};
 ghost use Rattle.std.specs.List.Sorted.{IsPermutation, IsSortedByKey};
 ghost use Rattle.std.specs.declared.cmp.Ordering.TheVariants.{Equal};
-ghost use Rattle.dets_term.specs.TermValue.{TermValue};
-ghost use Rattle.dets_term.specs.Order.{order, is_same};
-ghost use Rattle.dets_term.specs.Pairs.{by_key};
+ghost use Rattle.term_model.specs.TermValue.{TermValue};
+ghost use Rattle.term_model.specs.Order.{order, is_same};
+ghost use Rattle.term_model.specs.Pairs.{by_key};
 
 /// Of two terms one is less or they are equal, and what is less than a lesser one is less.
 #[tactic(auto, using(crate::specs::OrderCode::order_total))]

@@ -6,11 +6,11 @@ use Rattle.std.specs.declared.cmp.Ordering.{Ordering}
 use Rattle.std.specs.declared.cmp.Ordering.TheVariants.{Less, Equal, Greater}
 use Rattle.std.specs.Ordering.{is_lt, ordering_reverse}
 use Rattle.std.proofs.lemmas.List.Sorted.{IsPermutation-refl, IsPermutation-trans, IsPermutation-cons, IsPermutation-middle}
-use Rattle.dets_term.specs.TermValue.{TermValue}
-use Rattle.dets_term.specs.Order.{order}
-use Rattle.dets_term.specs.OrderCode.{order_total}
-use Rattle.dets_term.specs.Sorted.{placed_by, sorted_by, ascending}
-use Rattle.dets_term.specs.Adjacent.{Starts, Adjacent, adjacent_from_places, places_from_adjacent}
+use Rattle.term_model.specs.TermValue.{TermValue}
+use Rattle.term_model.specs.Order.{order}
+use Rattle.term_model.specs.OrderCode.{order_total}
+use Rattle.term_model.specs.Sorted.{placed_by, sorted_by, ascending}
+use Rattle.term_model.specs.Adjacent.{Starts, Adjacent, adjacent_from_places, places_from_adjacent}
 
 less-reverse : (r s : Ordering) → s ≡ ordering_reverse r → r ≡ Less → is_lt s ≡ false
 less-reverse Less s e l = ap is_lt e

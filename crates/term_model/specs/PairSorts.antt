@@ -9,13 +9,13 @@ use Rattle.std.proofs.lemmas.Bool.{or_parts, or_from, true_from_ne_false}
 use Rattle.std.proofs.lemmas.List.Elements.{recursion_from_All}
 use Rattle.std.proofs.lemmas.List.Sorted.{IsPermutation-sym, IsPermutation-trans, IsPermutation-map, All-permutation}
 use Rattle.std.proofs.lemmas.Map.Keys.{IsDistinct-IsPermutation}
-use Rattle.dets_term.specs.TermValue.{TermValue}
-use Rattle.dets_term.specs.Order.{order, is_same}
-use Rattle.dets_term.specs.OrderCode.{order_total}
-use Rattle.dets_term.specs.IsTerm.{Precedes, AreAscending}
-use Rattle.dets_term.specs.Pairs.{keys, by_key, repeats}
-use Rattle.dets_term.specs.Adjacent.{Adjacent}
-use Rattle.dets_term.specs.Sorting.{Follows, IsPermutation-sorted_by, Adjacent-sorted_by}
+use Rattle.term_model.specs.TermValue.{TermValue}
+use Rattle.term_model.specs.Order.{order, is_same}
+use Rattle.term_model.specs.OrderCode.{order_total}
+use Rattle.term_model.specs.IsTerm.{Precedes, AreAscending}
+use Rattle.term_model.specs.Pairs.{keys, by_key, repeats}
+use Rattle.term_model.specs.Adjacent.{Adjacent}
+use Rattle.term_model.specs.Sorting.{Follows, IsPermutation-sorted_by, Adjacent-sorted_by}
 
 abbrev Pair : Type 0
 Pair = TermValue × TermValue
@@ -102,7 +102,8 @@ holds_of P (p ∷ ps) z a (inr i) = holds_of P ps z a.1 i
 
 in_moved : (ps qs : List Pair) → IsPermutation ps qs → (z : Pair) → IsIn z ps → IsIn z qs
 in_moved ps qs moved z i =
-    holds_of (λ p. IsIn p qs) ps z (recursion_from_All (λ p. IsIn p qs) ps (All-permutation (λ p. IsIn p qs) qs ps (IsPermutation-sym ps qs moved) (in_at qs))) i
+    holds_of (λ p. IsIn p qs) ps z (recursion_from_All (λ p. IsIn p qs) ps
+    (All-permutation (λ p. IsIn p qs) qs ps (IsPermutation-sym ps qs moved) (in_at qs))) i
 
 not_both : (k l : TermValue) → order k l ≡ Less → order l k ≡ Less → ⊥
 not_both k l e f = let turned : order k l ≡ Greater = order_total.antisymm k l ∙ ap ordering_reverse f in cc
@@ -122,7 +123,8 @@ in_rest p q z ps qs a e i (inr j) = j
 in_rest p q z ps qs a e i (inl f) =
     let less : order p.0 p.0 ≡ Less = subst (λ r. order p.0 r.0 ≡ Less) (f ∙ sym e) (above p ps z a i) in absurd (not_both p.0 p.0 less less)
 
-same_list : (ps qs : List Pair) → AreAscending (keys ps) → AreAscending (keys qs) → ((z : Pair) → IsIn z ps → IsIn z qs) → ((z : Pair) → IsIn z qs → IsIn z ps) → ps ≡ qs
+same_list : (ps qs : List Pair) → AreAscending (keys ps) → AreAscending (keys qs) → ((z : Pair) → IsIn z ps → IsIn z qs)
+    → ((z : Pair) → IsIn z qs → IsIn z ps) → ps ≡ qs
 same_list [] [] a b f g = refl
 same_list [] (q ∷ qs) a b f g = absurd (g q (inl refl))
 same_list (p ∷ ps) [] a b f g = absurd (f p (inl refl))
@@ -140,10 +142,15 @@ ascending_is_by_key ps qs moved a =
     let none = repeats-IsPermutation (keys qs) (keys ps) (IsPermutation-map (λ p. p.0) qs ps back) (ascending_repeats (keys qs) a) in
     let placed = IsPermutation-sorted_by (λ (p : Pair). p.0) ps in
     let still = repeats-IsPermutation (keys ps) (keys (by_key ps)) (IsPermutation-map (λ p. p.0) ps (by_key ps) placed) none in
-    let there = IsPermutation-trans _ _ _ (IsPermutation-sym _ _ placed) moved in
-    (none, same_list (by_key ps) qs (ascending_from_order (by_key ps) (Adjacent-sorted_by (λ (p : Pair). p.0) ps) still) a (in_moved _ _ there) (in_moved _ _ (IsPermutation-sym _ _ there)))
+    let there = IsPermutation-trans _ _ _ (IsPermutation-sym _ _ placed) moved in (
+      none,
+      same_list (by_key ps) qs (ascending_from_order (by_key ps) (Adjacent-sorted_by (λ (p : Pair). p.0) ps) still) a (in_moved _ _ there)
+          (in_moved _ _ (IsPermutation-sym _ _ there)),
+    )
 
 -- pairs in order that do not ascend repeat a key
-pub repeats_unless_ascending : (ps qs : List Pair) → IsPermutation ps qs → Adjacent (Follows (λ p. p.0)) qs → (AreAscending (keys qs) → ⊥) → repeats (keys ps) ≡ true
+pub repeats_unless_ascending : (ps qs : List Pair) → IsPermutation ps qs → Adjacent (Follows (λ p. p.0)) qs → (AreAscending (keys qs) → ⊥)
+    → repeats (keys ps) ≡ true
 repeats_unless_ascending ps qs moved in_order not_ascending =
-    true_from_ne_false _ (λ e. not_ascending (ascending_from_order qs in_order (repeats-IsPermutation (keys ps) (keys qs) (IsPermutation-map (λ p. p.0) ps qs moved) e)))
+    true_from_ne_false _ (λ e. not_ascending (ascending_from_order qs in_order
+    (repeats-IsPermutation (keys ps) (keys qs) (IsPermutation-map (λ p. p.0) ps qs moved) e)))
