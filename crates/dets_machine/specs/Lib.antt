@@ -1,4 +1,5 @@
--- The definitions of this crate, one file for each idea.
-pub mod Command
+-- ---- cited by public contracts
 pub mod MachineValue
+-- ---- middles: what the commands of the code stand for, and what its table keeps
+pub mod Command
 pub mod Objects

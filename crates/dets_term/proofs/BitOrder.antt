@@ -188,9 +188,6 @@ some_bit x (y ∷ bs) used h = omega arith
 tail_padded : (x y : ℕ) (bs : List ℕ) (used : ℕ) → IsPadded (x ∷ y ∷ bs) used → IsPadded (y ∷ bs) used
 tail_padded x y bs used p = record { used = (p.used.0, p.used.1, λ e. cc); zeros = p.zeros }
 
-none_used : (bs : List ℕ) (used : ℕ) → IsPadded bs used → bs ≡ [] → used ≡ 8
-none_used bs used p e = p.used.2 e
-
 -- each of some bytes is one
 pub all_bytes : (bs : List ℕ) → ((i : ℕ) → i < length bs → get_or bs i 0 < 256) → AllByRecursion (λ x. x < 256) bs
 all_bytes [] h = tt

@@ -1,4 +1,4 @@
--- The order of lists in the two steps in which the code finds it.
+-- The order of lists as the code finds it: by their fronts, then by what follows these.
 use Rattle.std.proofs.Common.{◌≡◌, ℕ, ◌+◌, ◌<◌, ◌≤◌, ◌⊎◌, min, true, false, List, [], ◌∷◌, map, length, get_or, drop, refl, ap, ◌∙◌, sym, arith, inl, inr}
 use Rattle.std.specs.declared.cmp.Ordering.{Ordering}
 use Rattle.std.specs.declared.cmp.Ordering.TheVariants.{Less, Equal, Greater}
@@ -156,10 +156,10 @@ apart m n h e = elim h [
 ]
 
 -- by size, then by keys, then by values
-pub order-maps_by_steps : (ps qs : List (TermValue × TermValue))
+pub order-maps_by_fronts : (ps qs : List (TermValue × TermValue))
     → order (map_of ps) (map_of qs) ≡ ordering_then (ordering_then (nat_cmp (length ps) (length qs)) (front_order (keys ps) (keys qs)))
     (front_order (values ps) (values qs))
-order-maps_by_steps ps qs =
+order-maps_by_fronts ps qs =
     elim (cases_order (length ps) (length qs)) [
       | inl e ↦
           order-maps ps qs e

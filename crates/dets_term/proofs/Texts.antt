@@ -6,10 +6,6 @@ use Rattle.std.specs.Str.{chars, IsUtf8, encode_utf8_all, all_scalars}
 use Rattle.std.specs.Char.{IsScalar, encode_utf8}
 use Rattle.std.proofs.lemmas.Str.{chars-encodes, encodes-chars, encodes-append}
 
--- a text is its bytes
-pub same_chars : (a b : List ℕ) → IsUtf8 a → IsUtf8 b → chars a ≡ chars b → a ≡ b
-same_chars a b ua ub e = sym (encodes-chars a ua) ∙ ap encode_utf8_all e ∙ encodes-chars b ub
-
 pub all_scalars-chars : (bs : List ℕ) → IsUtf8 bs → all_scalars (chars bs) ≡ true
 all_scalars-chars bs u = ap all_scalars (ap chars (sym u.1.1) ∙ chars-encodes u.0 u.1.0) ∙ u.1.0
 

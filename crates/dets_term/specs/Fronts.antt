@@ -1,4 +1,4 @@
--- The order of two lists in two steps: by the elements that both have, then by what follows these.
+-- The order of two lists in two parts: by the elements that both have, then by what follows these.
 use Rattle.std.specs.Prelude.{ℕ, List, [], ◌∷◌, map}
 use Rattle.std.specs.declared.cmp.Ordering.{Ordering}
 use Rattle.std.specs.declared.cmp.Ordering.TheVariants.{Equal}

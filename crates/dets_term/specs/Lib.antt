@@ -8,7 +8,7 @@ pub use Rattle.term_model.specs.Pairs
 pub use Rattle.term_model.specs.Hash
 pub use Rattle.term_model.specs.Written
 pub mod Node
--- ---- middles: what the types of this crate keep, how their values are stored, and the order in the steps of the code
+-- ---- middles: what the types of this crate keep, how their values are stored, and the order as the code finds it
 pub mod Parts
 pub mod TermCode
 pub mod Fronts

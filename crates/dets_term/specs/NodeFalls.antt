@@ -1,4 +1,4 @@
--- What a node holds is smaller than the term that it is.
+-- Lemma: what a node holds is smaller than the term that it is.
 use Rattle.std.specs.Prelude.{◌*◌, ◌≤◌, max}
 use Rattle.std.proofs.Common.{arith}
 use Rattle.dets_term.specs.declared.term.Node.{Node}

@@ -1,4 +1,4 @@
--- A list of pairs is larger than each of its terms.
+-- Lemma: a list of pairs is larger than each of its terms.
 use Rattle.std.specs.Prelude.{◌+◌, ◌*◌, ◌≤◌, max, List, [], ◌∷◌}
 use Rattle.std.proofs.Common.{arith}
 use denote.Param.Weighed.{most}

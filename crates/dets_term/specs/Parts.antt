@@ -1,4 +1,4 @@
--- The deepest of a list of terms, and what a chain of them is as a list.
+-- The deepest of a list of terms or of pairs; then lemmas on a chain of terms as a list, its depth and its limits.
 use Rattle.std.specs.Prelude.{◌≡◌, ℕ, zero, suc, ◌+◌, ◌*◌, ◌<◌, ◌≤◌, ◌^◌, true, false, cond, max, List, [], ◌∷◌, ◌++◌, map, length, refl, slice_get, Some}
 use Rattle.std.specs.List.{AllByRecursion}
 use Rattle.std.proofs.Common.{arith, ap, ◌∙◌}
@@ -10,6 +10,21 @@ use Rattle.term_model.specs.IsTerm.{IsTerm, IsProper, IsBounded}
 abbrev pub deepest : List TermValue → ℕ
 deepest [] = 0
 deepest (t ∷ ts) = max (depth t) (deepest ts)
+
+-- each of them is a term
+abbrev pub AreTerms : List TermValue → Type 0
+AreTerms ts = AllByRecursion IsTerm ts
+
+-- the greatest depth in a list of pairs, 0 where it is empty
+abbrev pub deepest_of_pairs : List (TermValue × TermValue) → ℕ
+deepest_of_pairs [] = 0
+deepest_of_pairs (p ∷ ps) = max (max (depth p.0) (depth p.1)) (deepest_of_pairs ps)
+
+-- each key and each value is a term
+abbrev pub ArePairs : List (TermValue × TermValue) → Type 0
+ArePairs ps = AllByRecursion (λ p. IsTerm p.0 × IsTerm p.1) ps
+
+-- ---- lemmas
 
 pub deepest-push : (ts : List TermValue) (t : TermValue) → deepest (ts ++ t ∷ []) ≡ max (deepest ts) (depth t)
 deepest-push [] t = omega arith
@@ -61,10 +76,6 @@ IsBounded-chain (t ∷ ts) short terms =
     let size : length (elements (chain ts nil)) ≡ length ts = ap length (elements-chain ts) in
     (omega arith, terms.0.bounded, IsBounded-chain ts (omega arith) terms.1)
 
--- each of them is a term
-abbrev pub AreTerms : List TermValue → Type 0
-AreTerms ts = AllByRecursion IsTerm ts
-
 pub AreTerms-push : (ts : List TermValue) (t : TermValue) → AreTerms ts → IsTerm t → AreTerms (ts ++ t ∷ [])
 AreTerms-push [] t terms term = (term, tt)
 AreTerms-push (u ∷ ts) t terms term = (terms.0, AreTerms-push ts t terms.1 term)
@@ -80,19 +91,7 @@ deepest_bounds [] place t e = cc
 deepest_bounds (u ∷ ts) zero t e = let d : depth u ≡ depth t = ap depth (let f : u ≡ t = cc in f) in omega arith
 deepest_bounds (u ∷ ts) (suc place) t e = let rest = deepest_bounds ts place t e in omega arith
 
--- a part of a tuple or of a list has fewer levels than the whole
-pub depth-part_of_tuple : (ts : List TermValue) (place : ℕ) (t : TermValue) → slice_get ts place ≡ Some t → depth t < depth (tuple (chain ts nil))
-depth-part_of_tuple ts place t e = omega (arith, deepest_bounds ts place t e, parts_depth-chain ts)
-
-pub depth-part_of_list : (ts : List TermValue) (place : ℕ) (t : TermValue) → slice_get ts place ≡ Some t → depth t < depth (chain ts nil)
-depth-part_of_list ts place t e = omega (arith, deepest_bounds ts place t e, parts_depth-chain ts)
-
--- ---- pairs of a key and a value
-
--- the greatest depth in a list of pairs, 0 where it is empty
-abbrev pub deepest_of_pairs : List (TermValue × TermValue) → ℕ
-deepest_of_pairs [] = 0
-deepest_of_pairs (p ∷ ps) = max (max (depth p.0) (depth p.1)) (deepest_of_pairs ps)
+-- ---- lemmas on pairs of a key and a value
 
 pub deepest_of_pairs-push : (ps : List (TermValue × TermValue)) (p : TermValue × TermValue)
     → deepest_of_pairs (ps ++ p ∷ []) ≡ max (deepest_of_pairs ps) (max (depth p.0) (depth p.1))
@@ -109,10 +108,6 @@ parts_depth-map_of ps =
     let values = parts_depth-chain (map (λ p. p.1) ps) in
     let both = deepest-of_pairs ps in
     omega arith
-
--- each key and each value is a term
-abbrev pub ArePairs : List (TermValue × TermValue) → Type 0
-ArePairs ps = AllByRecursion (λ p. IsTerm p.0 × IsTerm p.1) ps
 
 pub ArePairs-push : (ps : List (TermValue × TermValue)) (p : TermValue × TermValue) → ArePairs ps → IsTerm p.0 → IsTerm p.1 → ArePairs (ps ++ p ∷ [])
 ArePairs-push [] p pairs k v = ((k, v), tt)

@@ -1,4 +1,4 @@
--- The definitions of this crate, one file for each idea.
+-- ---- cited by public contracts
 pub mod Command
 pub mod State
 pub mod Step

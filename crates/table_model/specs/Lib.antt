@@ -1,4 +1,5 @@
--- The definitions of this crate, one file for each idea.
+-- ---- cited by public contracts
 pub mod Table
 pub mod Filled
+-- ---- lemmas
 pub mod Sets

@@ -1,5 +1,5 @@
--- A code of values as lists of integers that keeps their order, and by which the order of terms is total. No code is
--- a front of another one: a value is the rank of its kind and what the kind compares by, in the order in which it does.
+-- Lemmas: the order of terms is total, by a code of values as lists of integers that keeps their order. No code is a
+-- front of another one: a value is the rank of its kind and what the kind compares by, in the order in which it does.
 use Rattle.std.specs.Prelude.{◌≡◌, ℕ, suc, ℤ, pos, Bool, true, false, cond, List, [], ◌∷◌, map, length, refl}
 use Rattle.std.proofs.Common.{arith, ap, ◌∙◌, sym, subst}
 use Rattle.std.specs.Ordering.{nat_cmp, int_cmp, bool_cmp, ordering_then}

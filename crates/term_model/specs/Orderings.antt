@@ -1,4 +1,4 @@
--- Laws of one ordering and then another, and of the order of numbers.
+-- Lemmas: one ordering and then another, and the order of numbers.
 use Rattle.std.specs.Prelude.{◌≡◌, ℕ, suc, ◌<◌, true, false, refl}
 use Rattle.std.proofs.Common.{arith, ap, sym}
 use Rattle.std.specs.declared.cmp.Ordering.{Ordering}

@@ -1,4 +1,4 @@
--- The order of two values is equal where the values are, and so the test on two values is equality.
+-- Lemmas: the order of two values is equal where the values are, and so the test on two values is equality.
 use Rattle.std.specs.Prelude.{◌≡◌, ℕ, ℤ, Bool, true, false, ◌↔◌, IsTrue, List, [], ◌∷◌, refl}
 use Rattle.std.proofs.Common.{ap, subst}
 use Rattle.std.proofs.lemmas.Bool.Decides.{same_from_decides}

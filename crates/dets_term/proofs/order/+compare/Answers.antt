@@ -9,7 +9,7 @@ use Rattle.dets_term.specs.Fronts.{front_order, ends_order, values}
 use Rattle.dets_term.specs.Node.{shown, IsSound}
 use Rattle.term_model.specs.Orderings.{decided, undecided}
 use Rattle.dets_term.proofs.Fronts.{by_size_alone, past_size, order-proper, order-proper-improper, order-improper-proper, order-improper_ends}
-use Rattle.dets_term.proofs.Fronts.{order-improper_longer, order-improper_fronts, order-tuples, order-tuples_differ, order-maps_by_steps, front_decided}
+use Rattle.dets_term.proofs.Fronts.{order-improper_longer, order-improper_fronts, order-tuples, order-tuples_differ, order-maps_by_fronts, front_decided}
 use Rattle.dets_term.proofs.Fronts.{front_goes_on, front_all, mapped_decided, mapped_goes_on, mapped_all}
 use Rattle.dets_term.proofs.NodeKinds.{kind, order-kinds, not_int, not_atom, not_tuple, not_map, not_list, not_bits}
 use Rattle.dets_term.proofs.order.+compare.Goals as goal
@@ -40,7 +40,7 @@ pub cmp-returns-then-is_ne : goal.cmp-returns-then-is_ne
 cmp-returns-then-is_ne t c =
     sym (decided c.cmp_keys-by_keys.result _ (sym c.is_ne.ensures ∙ c.if-is_ne.true))
     ∙ ap (λ o. ordering_then o (front_order (values c.in-Map-Map.pairs) (values c.in-Map-Map.others))) c.cmp_keys-by_keys.ensures
-    ∙ sym (order-maps_by_steps c.in-Map-Map.pairs c.in-Map-Map.others)
+    ∙ sym (order-maps_by_fronts c.in-Map-Map.pairs c.in-Map-Map.others)
     ∙ terms _ _ c.a.view_is c.b.view_is c.in-Map-Map.is-0 c.in-Map-Map.is-1
 
 pub cmp-returns-else-is_ne : goal.cmp-returns-else-is_ne
@@ -48,7 +48,7 @@ cmp-returns-else-is_ne t c =
     c.cmp_values.ensures
     ∙ sym (undecided c.cmp_keys-by_keys.result _ (sym c.is_ne.ensures ∙ c.if-is_ne.false))
     ∙ ap (λ o. ordering_then o (front_order (values c.in-Map-Map.pairs) (values c.in-Map-Map.others))) c.cmp_keys-by_keys.ensures
-    ∙ sym (order-maps_by_steps c.in-Map-Map.pairs c.in-Map-Map.others)
+    ∙ sym (order-maps_by_fronts c.in-Map-Map.pairs c.in-Map-Map.others)
     ∙ terms _ _ c.a.view_is c.b.view_is c.in-Map-Map.is-0 c.in-Map-Map.is-1
 
 pub cmp-returns-in-List-List : goal.cmp-returns-in-List-List
