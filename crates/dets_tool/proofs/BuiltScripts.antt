@@ -3,7 +3,7 @@ use Rattle.std.proofs.Common.{◌≡◌, ℕ, ◌<◌, Bool, true, false, List, 
 use Rattle.std.specs.Option.{option_map_or}
 use Rattle.dets_term.specs.TermValue.{TermValue}
 use Rattle.term_text.specs.Script.{Rest, blank, begun, faulty, Placed, IsScript, behind, answer}
-use Rattle.etf_codec.specs.declared.fed.Fed.TheVariants.{End as EndOfText}
+use Rattle.etf_model.specs.declared.fed.Fed.TheVariants.{End as EndOfText}
 use Rattle.term_text.specs.declared.feed.TextFault.TheVariants.{NotYet as NotYetText}
 use Rattle.term_text.proofs.Scripts.{one_script, piece_script, fault_stays}
 use Rattle.run_model.specs.State.{State, first_state}

@@ -5,7 +5,7 @@ use Rattle.std.specs.Option.{option_map_or}
 use Rattle.dets_term.specs.TermValue.{TermValue}
 use Rattle.term_text.specs.Next.{IsNext}
 use Rattle.term_text.specs.Script.{Rest, blank, begun, faulty, Placed, IsScript, answer, Answers}
-use Rattle.etf_codec.specs.declared.fed.Fed.TheVariants.{Again, End as EndOfText}
+use Rattle.etf_model.specs.declared.fed.Fed.TheVariants.{Again, End as EndOfText}
 use Rattle.term_text.specs.declared.feed.TextFault.TheVariants.{NotYet as NotYetText}
 use Rattle.term_text.proofs.Scripts.{script_behind, AreNext-script}
 use Rattle.term_text.proofs.Existence.{script_exists}

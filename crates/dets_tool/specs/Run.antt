@@ -4,7 +4,7 @@ use Rattle.std.specs.Prelude.{◌≡◌, ℕ, ◌<◌, ◌≤◌, ◌^◌, Bool,
 use Rattle.dets_term.specs.TermValue.{TermValue}
 use Rattle.term_text.specs.Printed.{printed}
 use Rattle.term_text.specs.Script.{Rest, blank, Placed, IsScript, answer}
-use Rattle.etf_codec.specs.declared.fed.Fed.TheVariants.{Again}
+use Rattle.etf_model.specs.declared.fed.Fed.TheVariants.{Again}
 use Rattle.term_text.specs.declared.feed.TextFault.TheVariants.{NotYet as NotYetText}
 use Rattle.run_model.specs.State.{first_state}
 use Rattle.run_model.specs.Step.{replies}

@@ -4,7 +4,7 @@ use Rattle.dets_term.specs.TermValue.{TermValue}
 use Rattle.term_text.specs.FeedState.{FeedState}
 use Rattle.term_text.specs.Next.{IsNext}
 use Rattle.term_text.specs.Script.{Placed, AreNext, behind, Answers}
-use Rattle.etf_codec.specs.declared.fed.Fed.TheVariants.{Again, End}
+use Rattle.etf_model.specs.declared.fed.Fed.TheVariants.{Again, End}
 use Rattle.term_text.specs.declared.feed.TextFault.TheVariants.{NotYet as NotYetText}
 use Rattle.run_model.specs.State.{State}
 use Rattle.run_model.specs.Step.{step, replies}

@@ -1,10 +1,10 @@
 -- Answers to bytes, by what reading them answers.
 use Rattle.std.proofs.Common.{◌≡◌, ℕ, ◌+◌, List, [], ◌∷◌, ◌++◌, length, take, Ok, Err, refl, ap, ◌∙◌, sym, subst, length-append, arith}
-use Rattle.etf_codec.specs.declared.fault.EtfFault.{EtfFault}
-use Rattle.etf_codec.specs.declared.fault.EtfFault.TheVariants.{Short, Memory}
-use Rattle.etf_codec.specs.Format.{Place, Format}
-use Rattle.etf_codec.specs.Exact.{IsExact}
-use Rattle.etf_codec.specs.Answers.{IsFront, Answers}
+use Rattle.etf_model.specs.declared.fault.EtfFault.{EtfFault}
+use Rattle.etf_model.specs.declared.fault.EtfFault.TheVariants.{Short, Memory}
+use Rattle.etf_model.specs.Format.{Place, Format}
+use Rattle.etf_model.specs.Exact.{IsExact}
+use Rattle.etf_model.specs.Answers.{IsFront, Answers}
 
 take_front : (front rest : List ℕ) → take (length front) (front ++ rest) ≡ front
 take_front [] rest = refl

@@ -2,10 +2,9 @@
 use Rattle.std.proofs.Common.{◌≡◌, ◌≢◌, ℕ, pos, true, false, ◌==◌, Ok, refl, arith}
 use Rattle.std.proofs.lemmas.Bool.Decides.{nat_tests}
 use Rattle.dets_term.specs.TermValue.{integer, nil}
-use Rattle.etf_codec.specs.Format.{Place, byte, changed}
-use Rattle.etf_codec.specs.Layout.{signed_32}
-use Rattle.etf_codec.specs.ReadTerms.{body_of}
-use Rattle.etf_codec.specs.Spelling.{number, big_integer, name, binary, bit_binary, string, tuple_of, list_of, map_format, part_at, tail_at}
+use Rattle.etf_model.specs.Format.{Place, byte, changed}
+use Rattle.etf_model.specs.Layout.{signed_32}
+use Rattle.etf_model.specs.Spelling.{number, big_integer, name, binary, bit_binary, string, tuple_of, list_of, map_format, part_at, tail_at, body_of}
 
 apart : (tag n : ℕ) → tag ≢ n → (tag == n) ≡ false
 apart tag n h = grind (arith, nat_tests)

@@ -6,7 +6,7 @@ use Rattle.std.proofs.lemmas.Bool.Decides.{nat_tests}
 use Rattle.dets_term.specs.TermValue.{TermValue, integer, nil, chain, depth}
 use Rattle.dets_term.specs.IsTerm.{built}
 use Rattle.dets_term.specs.Parts.{deepest, parts_depth-chain}
-use Rattle.etf_codec.specs.Layout.{integers}
+use Rattle.etf_model.specs.Layout.{integers}
 
 -- within the limits it is the term itself
 pub built_within : (parts : ℕ) (t : TermValue) → parts < 2 ^ 32 → depth t ≤ 256 → built parts t ≡ Ok t

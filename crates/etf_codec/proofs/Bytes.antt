@@ -1,12 +1,12 @@
 -- Runs of bytes and big-endian numbers, as formats read them.
 use Rattle.std.proofs.Common.{◌≡◌, ℕ, zero, suc, ◌+◌, ◌*◌, ◌-◌, ◌^◌, ◌<◌, ◌≤◌, List, [], ◌∷◌, length, take, drop, Ok, Err, refl, ap, ◌∙◌, arith, add-one, Bool, true, false, cond}
-use Rattle.etf_codec.specs.declared.fault.EtfFault.{EtfFault}
-use Rattle.etf_codec.specs.declared.fault.EtfFault.TheVariants.{Short}
 use Rattle.std.proofs.Math.Nat.{pow-succ'}
 use Rattle.std.proofs.lemmas.List.{take_rest, drop-drop}
-use Rattle.etf_codec.specs.Format.{Place, Reading, byte, times, go_on, judged}
+use Rattle.etf_model.specs.declared.fault.EtfFault.{EtfFault}
+use Rattle.etf_model.specs.declared.fault.EtfFault.TheVariants.{Short}
+use Rattle.etf_model.specs.Format.{Place, Reading, byte, times, go_on, judged}
+use Rattle.etf_model.specs.Spelling.{number_after}
 use Rattle.etf_codec.specs.Reads.{place_at}
-use Rattle.etf_codec.specs.Spelling.{number_after}
 
 -- to go on behind a value, and behind a fault
 pub go_on_ok : {A B : Type 0} (r : Reading A) (x : A) (behind : Place) (next : A → Place → Reading B) → r ≡ Ok (x, behind) → go_on r next ≡ next x behind

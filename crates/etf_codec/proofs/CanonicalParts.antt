@@ -1,20 +1,20 @@
 -- What the functions of encoding write of a term's parts: integers, atoms, and the elements of lists.
-use Rattle.std.proofs.Common.{◌≡◌, ℕ, zero, suc, ◌+◌, ◌*◌, ◌^◌, ◌<◌, ◌≤◌, ℤ, pos, true, false, cond, List, [], ◌∷◌, ◌++◌, length, drop, Option, Some, None, slice_get, Bor, leb, ltb, refl, sym, ap, ◌∙◌, ⊎_elim, arith, append_assoc}
+use Rattle.std.proofs.Common.{◌≡◌, ℕ, zero, suc, ◌+◌, ◌^◌, ◌<◌, ◌≤◌, ℤ, pos, true, false, cond, List, [], ◌∷◌, ◌++◌, length, drop, Option, Some, None, slice_get, Bor, leb, ltb, refl, sym, ap, ◌∙◌, ⊎_elim, arith, append_assoc}
 use Rattle.std.specs.Prelude.{negsuc, unsigned_abs, int_lt}
 use Rattle.std.specs.List.{list_all}
 use Rattle.std.specs.Option.{is_some, option_copied, MatchOption}
 use Rattle.std.specs.Str.{encode_utf8_all, chars, IsUtf8}
-use lib.Utf8.{encode}
 use Rattle.std.specs.Int.{w32, from_bool}
 use Rattle.std.specs.Int.RustNames.{FitsSigned}
 use Rattle.std.proofs.lemmas.Bool.{cond-false, lt-leb, le-ltb, and_parts, cases_lt}
-use Rattle.std.proofs.lemmas.List.{length-append, append-nil}
-use Rattle.std.proofs.lemmas.Str.{length-encode, len_utf8_bounds, encodes-chars}
+use Rattle.std.proofs.lemmas.List.{append-nil}
+use Rattle.std.proofs.lemmas.Str.{encodes-chars}
 use Rattle.dets_term.specs.declared.term.Node.{Node}
 use Rattle.dets_term.specs.declared.term.Node.TheVariants.{Int, Atom, Tuple, Map, List as ListNode, Improper, Bits}
 use Rattle.dets_term.specs.TermValue.{TermValue}
 use Rattle.dets_term.specs.Node.{shown, IsSound}
-use Rattle.etf_codec.specs.Canonical.{integer_spelling, big_spelling, is_byte, byte_value}
+use Rattle.etf_model.specs.CanonicalWholes.{length-encodes-le}
+use Rattle.etf_model.specs.Canonical.{integer_spelling, big_spelling, is_byte, byte_value}
 
 -- ---- integers
 
@@ -29,14 +29,6 @@ integer_spelling-big (negsuc n) large =
     cond-false (ltb n (2 ^ 31)) _ _ (le-ltb n (2 ^ 31) above)
 
 -- ---- atoms
-
-pub length-encodes-le : (cs : List ℕ) → length (encode_utf8_all cs) ≤ 4 * length cs
-length-encodes-le [] = omega arith
-length-encodes-le (c ∷ cs) =
-    let first = length-encode c in
-    let bounds = len_utf8_bounds c in
-    let both : length (encode_utf8_all (c ∷ cs)) ≡ length (encode c) + length (encode_utf8_all cs) = length-append (encode c) (encode_utf8_all cs) in
-    omega (arith, length-encodes-le cs)
 
 pub name-fits : (name : List ℕ) → IsUtf8 name → length (chars name) ≤ 255 → length name < 2 ^ 16
 name-fits name utf8 h =

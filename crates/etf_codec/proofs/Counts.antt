@@ -1,10 +1,10 @@
 -- Numbers of parts, as formats read them.
 use Rattle.std.proofs.Common.{◌≡◌, List, ℕ, zero, suc, ◌+◌, ◌*◌, ◌-◌, ◌<◌, ◌≤◌, ◌≢◌, true, false, [], ◌∷◌, Ok, Err, refl, ap, ◌∙◌, arith, ◌==◌, cond}
 use Rattle.std.proofs.lemmas.Bool.Decides.{nat_tests}
-use Rattle.etf_codec.specs.declared.fault.EtfFault.{EtfFault}
-use Rattle.etf_codec.specs.declared.fault.EtfFault.TheVariants.{Depth}
-use Rattle.etf_codec.specs.Format.{Place, byte, judged}
-use Rattle.etf_codec.specs.Spelling.{number, number_after, count, count_after}
+use Rattle.etf_model.specs.declared.fault.EtfFault.{EtfFault}
+use Rattle.etf_model.specs.declared.fault.EtfFault.TheVariants.{Depth}
+use Rattle.etf_model.specs.Format.{Place, byte, judged}
+use Rattle.etf_model.specs.Spelling.{number, number_after, count, count_after}
 use Rattle.etf_codec.proofs.Bytes.{go_on_ok, go_on_err}
 
 -- where there may be parts, their number is read as any number is

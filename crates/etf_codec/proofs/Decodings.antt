@@ -2,15 +2,15 @@
 use Rattle.std.proofs.Common.{◌≡◌, ℕ, ◌+◌, ◌⊎◌, List, Result, Ok, Err, refl, ap, sym, ◌∙◌, subst, inl, inr, arith}
 use Rattle.std.specs.Result.{IsErrAnd}
 use Rattle.dets_term.specs.TermValue.{TermValue}
-use Rattle.etf_codec.specs.declared.fault.EtfFault.{EtfFault}
-use Rattle.etf_codec.specs.declared.fault.EtfFault.TheVariants.{Memory}
+use Rattle.etf_model.specs.declared.fault.EtfFault.{EtfFault}
+use Rattle.etf_model.specs.declared.fault.EtfFault.TheVariants.{Memory}
+use Rattle.etf_model.specs.Decoding.{IsDecoding}
+use Rattle.etf_model.specs.Format.{Place}
+use Rattle.etf_model.specs.Spelling.{spelling}
+use Rattle.etf_model.specs.SpellingExact.{spelling-exact}
 use Rattle.etf_codec.specs.declared.term_reader.TermReader.{TermReader}
-use Rattle.etf_codec.specs.Decoding.{IsDecoding}
-use Rattle.etf_codec.specs.Format.{Place}
-use Rattle.etf_codec.specs.Spelling.{spelling}
 use Rattle.etf_codec.specs.TermReader.{IsFresh, reads_next, reads_on}
 use Rattle.etf_codec.proofs.Answering.{front_read, fault_read}
-use Rattle.etf_codec.proofs.SpellingExact.{spelling-exact}
 
 -- a reader that has read nothing reads a spelling
 pub reads_fresh : (reader : TermReader) (place : Place) → IsFresh reader → reads_on reader place ≡ spelling.read place.offset place

@@ -3,22 +3,22 @@ use Rattle.std.proofs.Common.{◌≡◌, ◌≢◌, ◌⊎◌, ℕ, ◌+◌, ◌
 use Rattle.std.proofs.lemmas.List.{take_all, take_min, take_at, take-append-le, take-append-drop, length-take, length-take-le, length-drop}
 use Rattle.std.proofs.Math.Seq.{take-add}
 use Rattle.dets_term.specs.TermValue.{TermValue}
-use Rattle.etf_codec.specs.declared.fault.EtfFault.{EtfFault}
-use Rattle.etf_codec.specs.declared.fault.EtfFault.TheVariants.{Short, LongTerm, Memory}
-use Rattle.etf_codec.specs.declared.fed.Fed.{Fed}
-use Rattle.etf_codec.specs.declared.fed.Fed.TheVariants.{Term, Again, End}
+use Rattle.etf_model.specs.declared.fault.EtfFault.{EtfFault}
+use Rattle.etf_model.specs.declared.fault.EtfFault.TheVariants.{Short, LongTerm, Memory}
+use Rattle.etf_model.specs.declared.fed.Fed.{Fed}
+use Rattle.etf_model.specs.declared.fed.Fed.TheVariants.{Term, Again, End}
+use Rattle.etf_model.specs.Format.{Place}
+use Rattle.etf_model.specs.Exact.{Between}
+use Rattle.etf_model.specs.Answers.{IsFront, Answers}
+use Rattle.etf_model.specs.Spelling.{spelling, IsPart}
+use Rattle.etf_model.specs.FeedState.{FeedState, total, longest, front_of, passed, failed}
+use Rattle.etf_model.specs.Next.{Gives, gives_behind, IsNext}
+use Rattle.etf_model.specs.SpellingExact.{spelling-exact, spelling_lacks_long}
 use Rattle.etf_codec.specs.declared.term_reader.TermReader.{TermReader}
 use Rattle.etf_codec.specs.declared.feed.TermFeed.TheInside.{Inside}
-use Rattle.etf_codec.specs.Format.{Place}
-use Rattle.etf_codec.specs.Exact.{Between}
 use Rattle.etf_codec.specs.GoesOn.{GoesOn}
-use Rattle.etf_codec.specs.Answers.{IsFront, Answers}
-use Rattle.etf_codec.specs.Spelling.{spelling, IsPart}
 use Rattle.etf_codec.specs.TermReader.{IsFresh, IsReader, IsNest, StageFits, reads_on}
-use Rattle.etf_codec.specs.FeedState.{FeedState, total, longest, front_of, passed, failed}
-use Rattle.etf_codec.specs.Next.{Gives, gives_behind, IsNext}
 use Rattle.etf_codec.specs.FeedInside.{IsInOrder}
-use Rattle.etf_codec.proofs.SpellingExact.{spelling-exact, spelling_lacks_long}
 use Rattle.etf_codec.proofs.Answering.{front_read, fault_read}
 use Rattle.etf_codec.proofs.Decodings.{reads_fresh}
 

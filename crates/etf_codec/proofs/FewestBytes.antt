@@ -1,19 +1,13 @@
 -- The fewest bytes of a magnitude: how many they are, and that they stand in front of all its bytes.
-use Rattle.std.proofs.Common.{◌≡◌, ℕ, zero, suc, ◌+◌, ◌-◌, ◌*◌, ◌/◌, ◌%◌, ◌^◌, ◌<◌, ◌≤◌, ⊎_elim, eqb, [], ◌∷◌, length, take, refl, sym, ap, ◌∙◌, subst, arith}
+use Rattle.std.proofs.Common.{◌≡◌, ℕ, zero, suc, ◌+◌, ◌-◌, ◌*◌, ◌/◌, ◌%◌, ◌^◌, ◌<◌, ◌≤◌, ⊎_elim, ◌∷◌, length, take, refl, sym, ap, ◌∙◌, subst, arith}
 use Rattle.std.proofs.Math.Nat.{div-div-eq-div-mul, pow-succ', pow-le-pow_right, one-le-pow}
 use lib.Pow.{pow-add}
-use Rattle.std.proofs.lemmas.Bool.{cond-false, ne_eqb, cases_eq, cases_lt}
+use Rattle.std.proofs.lemmas.Bool.{cases_eq, cases_lt}
 use Rattle.std.proofs.lemmas.Nat.{leading_top}
 use Rattle.std.specs.Int.{bytes_low_first, div_ceil}
 use Rattle.std.specs.Int.Count.{count_leading_zeros, leading_of_zero}
-use Rattle.etf_codec.specs.Canonical.{low_bytes, magnitude_bytes}
-
-pub low_bytes-zero : (most : ℕ) → low_bytes most 0 ≡ []
-low_bytes-zero zero = refl
-low_bytes-zero (suc most) = refl
-
-pub low_bytes-more : (most m : ℕ) → 0 < m → low_bytes (suc most) m ≡ m % 256 ∷ low_bytes most (m / 256)
-low_bytes-more most m h = cond-false (eqb m 0) [] (m % 256 ∷ low_bytes most (m / 256)) (ne_eqb m 0 (λ e. omega arith))
+use Rattle.etf_model.specs.Canonical.{low_bytes, magnitude_bytes}
+use Rattle.etf_model.specs.CanonicalWholes.{low_bytes-more}
 
 -- so many bytes hold the magnitude, and no fewer do
 pub record IsSize (m n : ℕ) : Type 0 where

@@ -1,8 +1,8 @@
 -- Reading one thing after another.
 use Rattle.std.proofs.Common.{◌≡◌, ℕ, zero, suc, Bool, List, ◌∷◌, Ok, Err, refl}
-use Rattle.etf_codec.specs.declared.fault.EtfFault.{EtfFault}
-use Rattle.etf_codec.specs.Format.{Format, Place, Reading, go_on, followed, changed, times}
-use Rattle.etf_codec.specs.Spelling.{term_with}
+use Rattle.etf_model.specs.declared.fault.EtfFault.{EtfFault}
+use Rattle.etf_model.specs.Format.{Format, Place, Reading, go_on, followed, changed, times}
+use Rattle.etf_model.specs.Spelling.{term_with}
 
 pub go_on_twice : {A B C : Type 0} (r : Reading A) (f : A → Place → Reading B) (g : B → Place → Reading C) → go_on (go_on r f) g ≡ go_on r (λ x b. go_on (f x b) g)
 go_on_twice (Ok r) f g = refl

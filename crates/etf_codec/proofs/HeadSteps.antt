@@ -5,21 +5,21 @@ use Rattle.std.specs.Prelude.{◌⊎◌, ◌≢◌}
 use Rattle.std.specs.Result.{IsErrAnd}
 use mathlib.Core.Logic.{inl, inr}
 use Rattle.dets_term.specs.TermValue.{TermValue, integer, tuple, nil, chain, map_of}
-use Rattle.etf_codec.specs.declared.fault.EtfFault.{EtfFault}
-use Rattle.etf_codec.specs.declared.fault.EtfFault.TheVariants.{Memory}
+use Rattle.etf_model.specs.declared.fault.EtfFault.{EtfFault}
+use Rattle.etf_model.specs.declared.fault.EtfFault.TheVariants.{Memory}
+use Rattle.etf_model.specs.Format.{Format, Place, byte, times, followed, changed, either}
+use Rattle.etf_model.specs.Spelling.{number, count, magnitude_after, big_integer, tuple_of, list_of, map_format, no_tail, part_at, tail_at, pairs_after}
+use Rattle.etf_model.specs.Layout.{signed, limit}
+use Rattle.etf_model.specs.Exactness.{byte-exact}
+use Rattle.etf_model.specs.SpellingExact.{number-exact, count-exact}
 use Rattle.etf_codec.specs.declared.frame.Frame.TheVariants.{Element, Item, Key}
 use Rattle.etf_codec.specs.declared.head.Head.{Head}
 use Rattle.etf_codec.specs.declared.head.Head.TheVariants.{Whole, Begun, Number}
 use Rattle.etf_codec.specs.BigIntegers.{integer_read}
-use Rattle.etf_codec.specs.Format.{Format, Place, byte, times, followed, changed, either}
 use Rattle.etf_codec.specs.GoesOn.{GoesOn}
 use Rattle.etf_codec.specs.Heads.{parts_read, HeadReads, HeadFits}
-use Rattle.etf_codec.specs.Spelling.{number, count, magnitude_after, big_integer, tuple_of, list_of, map_format, no_tail, part_at, tail_at, pairs_after}
-use Rattle.etf_codec.specs.Layout.{signed, limit}
 use Rattle.etf_codec.proofs.Bytes.{go_on_ok}
-use Rattle.etf_codec.proofs.Exactness.{byte-exact}
 use Rattle.etf_codec.proofs.Onward.{goes_on_as, whatever_follows}
-use Rattle.etf_codec.proofs.SpellingExact.{number-exact, count-exact}
 
 pub tuple_begins : (levels size start n : ℕ) (place next : Place) (ts : List TermValue) → (count levels size).read start place ≡ Ok (n, next) → 0 < n → ts ≡ []
     → (tuple_of (part_at levels) levels size).read start place ≡ parts_read (Element (n - 1) ts) levels start next

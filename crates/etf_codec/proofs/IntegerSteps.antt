@@ -2,16 +2,16 @@
 use Rattle.std.proofs.Common.{◌≡◌, ℕ, ◌+◌, ◌*◌, ◌-◌, ◌^◌, ◌<◌, ◌≤◌, List, [], ◌∷◌, Result, Ok, Err, ap, sym, ◌∙◌, subst, arith}
 use Rattle.std.specs.Result.{IsErrAnd}
 use Rattle.dets_term.specs.TermValue.{TermValue, integer}
+use Rattle.etf_model.specs.declared.fault.EtfFault.{EtfFault}
+use Rattle.etf_model.specs.declared.fault.EtfFault.TheVariants.{Short, IntegerRange}
+use Rattle.etf_model.specs.Format.{Place, Reading, byte, first_byte, go_on}
+use Rattle.etf_model.specs.Layout.{signed, limit}
+use Rattle.etf_model.specs.Spelling.{magnitude_after}
+use Rattle.etf_model.specs.Exactness.{byte-exact}
 use Rattle.etf_codec.specs.declared.big_integer.BigInteger.{BigInteger}
-use Rattle.etf_codec.specs.declared.fault.EtfFault.{EtfFault}
-use Rattle.etf_codec.specs.declared.fault.EtfFault.TheVariants.{Short, IntegerRange}
 use Rattle.etf_codec.specs.BigIntegers.{IsBig, integer_read, IntegerReads}
-use Rattle.etf_codec.specs.Format.{Place, Reading, byte, first_byte, go_on}
 use Rattle.etf_codec.specs.GoesOn.{GoesOn}
-use Rattle.etf_codec.specs.Layout.{signed, limit}
-use Rattle.etf_codec.specs.Spelling.{magnitude_after}
 use Rattle.etf_codec.proofs.Bytes.{go_on_err, pow_256_more}
-use Rattle.etf_codec.proofs.Exactness.{byte-exact}
 use Rattle.etf_codec.proofs.Magnitudes.{magnitude_more, magnitude_passes, magnitude_fails}
 use Rattle.etf_codec.proofs.Onward.{goes_on_here, goes_on_then, goes_on_as, whatever_follows}
 

@@ -9,13 +9,13 @@ use Rattle.dets_term.specs.IsTerm.{AreAscending}
 use Rattle.dets_term.specs.Pairs.{keys, placed, map_built}
 use Rattle.dets_term.specs.PairSorts.{ascending_is_by_key}
 use Rattle.dets_term.specs.Parts.{deepest, deepest-push, deepest_of_pairs}
+use Rattle.etf_model.specs.declared.fault.EtfFault.{EtfFault}
+use Rattle.etf_model.specs.Format.{Place}
 use Rattle.etf_codec.specs.declared.frame.Begun.{Begun}
 use Rattle.etf_codec.specs.declared.frame.Frame.{Frame}
 use Rattle.etf_codec.specs.declared.frame.Frame.TheVariants.{Element, Item, Tail, Key, Value}
-use Rattle.etf_codec.specs.declared.fault.EtfFault.{EtfFault}
 use Rattle.etf_codec.specs.declared.joining.Joined.{Joined}
 use Rattle.etf_codec.specs.Joins.{JoinsWithin}
-use Rattle.etf_codec.specs.Format.{Place}
 use Rattle.etf_codec.specs.Machine.{resume, reading_at}
 use Rattle.etf_codec.specs.Begun.{PartsFit, PairsFit, FrameFits, PartFits, MayBegin}
 use Rattle.etf_codec.proofs.PairOrder.{length-placed, deepest-placed, map_built_within, depth-map_of}

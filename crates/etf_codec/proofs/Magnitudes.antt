@@ -2,10 +2,10 @@
 use Rattle.std.proofs.Common.{◌≡◌, ℕ, zero, suc, ◌+◌, ◌*◌, ◌-◌, ◌^◌, ◌<◌, ◌≤◌, true, false, Ok, Err, ap, ◌∙◌, arith, nat_le}
 use Rattle.std.proofs.lemmas.Bool.Decides.{nat_tests}
 use Rattle.std.proofs.Math.Nat.{pow-le-pow_right, mul-le-mul}
-use Rattle.etf_codec.specs.declared.fault.EtfFault.{EtfFault}
-use Rattle.etf_codec.specs.declared.fault.EtfFault.TheVariants.{IntegerRange}
-use Rattle.etf_codec.specs.Format.{Place, byte, judged}
-use Rattle.etf_codec.specs.Spelling.{magnitude_after}
+use Rattle.etf_model.specs.declared.fault.EtfFault.{EtfFault}
+use Rattle.etf_model.specs.declared.fault.EtfFault.TheVariants.{IntegerRange}
+use Rattle.etf_model.specs.Format.{Place, byte, judged}
+use Rattle.etf_model.specs.Spelling.{magnitude_after}
 use Rattle.etf_codec.proofs.Bytes.{go_on_ok, go_on_err}
 
 -- a byte at one of sixteen places weighs less than 2 ^ 128

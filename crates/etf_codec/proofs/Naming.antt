@@ -5,9 +5,9 @@ use Rattle.std.proofs.lemmas.Bool.Decides.{nat_tests}
 use Rattle.std.proofs.lemmas.Str.{is_utf8-from_IsUtf8, IsUtf8-from_is_utf8}
 use Rattle.std.specs.Str.{chars, is_utf8, IsUtf8}
 use Rattle.dets_term.specs.TermValue.{TermValue, atom}
-use Rattle.etf_codec.specs.declared.fault.EtfFault.{EtfFault}
-use Rattle.etf_codec.specs.declared.fault.EtfFault.TheVariants.{Memory, BadAtom}
-use Rattle.etf_codec.specs.Layout.{is_name}
+use Rattle.etf_model.specs.declared.fault.EtfFault.{EtfFault}
+use Rattle.etf_model.specs.declared.fault.EtfFault.TheVariants.{Memory, BadAtom}
+use Rattle.etf_model.specs.Layout.{is_name}
 use Rattle.etf_codec.specs.ReadTerms.{IsAtomOf}
 
 short_passes : (n : ℕ) → n ≤ 255 → nat_le n 255 ≡ true

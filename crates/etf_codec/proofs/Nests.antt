@@ -5,10 +5,10 @@ use Rattle.std.specs.Result.{IsErrAnd}
 use mathlib.Core.Logic.{inl, inr}
 use Rattle.std.proofs.lemmas.List.{reverse-append, length-append, length-reverse}
 use Rattle.dets_term.specs.TermValue.{TermValue, depth}
-use Rattle.etf_codec.specs.declared.fault.EtfFault.{EtfFault}
-use Rattle.etf_codec.specs.declared.fault.EtfFault.TheVariants.{Short, Memory, RepeatedKey}
+use Rattle.etf_model.specs.declared.fault.EtfFault.{EtfFault}
+use Rattle.etf_model.specs.declared.fault.EtfFault.TheVariants.{Short, Memory, RepeatedKey}
+use Rattle.etf_model.specs.Format.{Place}
 use Rattle.etf_codec.specs.declared.joining.Joined.TheVariants.{Whole, Open}
-use Rattle.etf_codec.specs.Format.{Place}
 use Rattle.etf_codec.specs.Joins.{JoinsTo, JoinsWithin}
 use Rattle.etf_codec.specs.declared.frame.Begun.{Begun}
 use Rattle.etf_codec.specs.declared.frame.Frame.{Frame}

@@ -1,13 +1,18 @@
 -- The next part of what is begun.
 use Rattle.std.proofs.Common.{◌≡◌, ℕ, suc, ◌-◌, ◌≤◌, cond, ◌==◌, List, [], ◌∷◌, length, Result, Ok, Err, refl, ap, sym, ◌∙◌, subst, arith}
 use Rattle.std.specs.Prelude.{reverse, ◌⊎◌, ◌≢◌}
-use Rattle.etf_codec.specs.declared.tags.Position.{Position}
 use Rattle.std.specs.Result.{IsErrAnd}
 use mathlib.Core.Logic.{inl, inr}
 use Rattle.std.proofs.lemmas.List.{length-reverse}
 use Rattle.dets_term.specs.TermValue.{TermValue, chain, elements, depth}
-use Rattle.etf_codec.specs.declared.fault.EtfFault.{EtfFault}
-use Rattle.etf_codec.specs.declared.fault.EtfFault.TheVariants.{Memory, Unsupported, Compressed}
+use Rattle.dets_term.specs.Pairs.{placed}
+use Rattle.etf_model.specs.declared.fault.EtfFault.{EtfFault}
+use Rattle.etf_model.specs.declared.fault.EtfFault.TheVariants.{Memory, Unsupported, Compressed}
+use Rattle.etf_model.specs.Format.{Place, Reading, go_on}
+use Rattle.etf_model.specs.Layout.{is_known}
+use Rattle.etf_model.specs.Spelling.{part_at, tail_at, outermost, body_of}
+use Rattle.etf_model.specs.SpellingExact.{body_of-exact}
+use Rattle.etf_codec.specs.declared.tags.Position.{Position}
 use Rattle.etf_codec.specs.declared.frame.Begun.{Begun}
 use Rattle.etf_codec.specs.declared.frame.Frame.{Frame}
 use Rattle.etf_codec.specs.declared.frame.Frame.TheVariants.{Element, Item, Tail, Key, Value}
@@ -16,20 +21,14 @@ use Rattle.etf_codec.specs.declared.head.Head.{Head}
 use Rattle.etf_codec.specs.declared.head.Head.TheVariants.{Whole, Begun as Opened, Number}
 use Rattle.etf_codec.specs.BigIntegers.{integer_read}
 use Rattle.etf_codec.specs.GoesOn.{GoesOn}
-use Rattle.etf_codec.specs.Format.{Place, Reading, go_on}
 use Rattle.etf_codec.specs.Machine.{levels_below, map_behind, resume, wanted_by, wanted, reading_at}
 use Rattle.etf_codec.specs.Begun.{FrameFits, PartFits, MayBegin, AreBegun, MayCome}
 use Rattle.etf_codec.specs.Heads.{parts_read, HeadReads, HeadFits}
-use Rattle.etf_codec.specs.ReadTerms.{body_of}
-use Rattle.etf_codec.specs.Layout.{is_known}
-use Rattle.etf_codec.specs.Spelling.{part_at, tail_at, outermost}
 use Rattle.etf_codec.specs.Tags.{terms_at, next_in, next_position, TagReads, BeginsTail}
 use Rattle.etf_codec.specs.TermReader.{IsNest, NextReads}
-use Rattle.dets_term.specs.Pairs.{placed}
 use Rattle.etf_codec.proofs.Bytes.{go_on_ok, go_on_err}
 use Rattle.etf_codec.proofs.GoOn.{go_on_twice, whichever_term}
 use Rattle.etf_codec.proofs.Onward.{goes_on_here, goes_on_then, goes_on_as, whatever_follows, no_longer}
-use Rattle.etf_codec.proofs.SpellingExact.{body_of-exact}
 use Rattle.etf_codec.proofs.Resuming.{part_anywhere, tail_anywhere, element_first, item_first, key_first}
 
 -- ---- what is wanted

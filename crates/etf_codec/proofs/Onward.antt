@@ -1,7 +1,7 @@
 -- Reading that goes on at a later place.
 use Rattle.std.proofs.Common.{◌≡◌, ℕ, ◌+◌, ◌≤◌, List, [], ◌++◌, length, Ok, refl, ap, sym, ◌∙◌, arith, append_assoc, length-append}
-use Rattle.etf_codec.specs.Exact.{IsExact, Between}
-use Rattle.etf_codec.specs.Format.{Format, Place, Reading}
+use Rattle.etf_model.specs.Exact.{IsExact, Between}
+use Rattle.etf_model.specs.Format.{Format, Place, Reading}
 use Rattle.etf_codec.specs.GoesOn.{GoesOn}
 
 -- nothing was read

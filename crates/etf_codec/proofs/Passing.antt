@@ -1,10 +1,10 @@
 -- Terms that are passed over, one after the other and behind their tags.
 use Rattle.std.proofs.Common.{◌≡◌, ℕ, zero, suc, ◌-◌, ◌<◌, true, List, ◌∷◌, Result, Ok, Err, refl, ap, ◌∙◌, sym, subst, arith}
-use Rattle.etf_codec.specs.declared.fault.EtfFault.{EtfFault}
-use Rattle.etf_codec.specs.declared.fault.EtfFault.TheVariants.{Unsupported, Depth}
-use Rattle.etf_codec.specs.Format.{Place, Format, Reading, byte, times, go_on}
+use Rattle.etf_model.specs.declared.fault.EtfFault.{EtfFault}
+use Rattle.etf_model.specs.declared.fault.EtfFault.TheVariants.{Unsupported, Depth}
+use Rattle.etf_model.specs.Format.{Place, Format, Reading, byte, times, go_on}
+use Rattle.etf_model.specs.Skipping.{has_layout, parts, skip_body, skipped_at}
 use Rattle.etf_codec.specs.Reads.{Reads, ReadsAs, behind_tag}
-use Rattle.etf_codec.specs.Skipping.{has_layout, parts, skip_body, skipped_at}
 use Rattle.etf_codec.proofs.Bytes.{go_on_ok, go_on_err}
 use Rattle.etf_codec.proofs.Reading.{reads_same, as_reads, reads_behind_tag}
 

@@ -1,13 +1,18 @@
 -- What a reader answers, and how it goes on.
-use Rattle.std.proofs.Common.{◌≡◌, ℕ, ◌<◌, ◌≤◌, ◌==◌, List, [], ◌∷◌, length, Result, Ok, Err, ap, sym, ◌∙◌, subst, arith}
+use Rattle.std.proofs.Common.{◌≡◌, ℕ, ◌-◌, ◌^◌, ◌<◌, ◌≤◌, ◌==◌, List, [], ◌∷◌, length, Result, Ok, Err, ap, sym, ◌∙◌, subst, arith}
 use Rattle.std.specs.Prelude.{◌⊎◌, IfOk, Option, Some, None, reverse}
 use Rattle.std.specs.Result.{IsErrAnd}
 use mathlib.Core.Logic.{inl, inr}
 use Rattle.std.proofs.lemmas.List.{length-reverse}
-use Rattle.dets_term.specs.TermValue.{TermValue}
+use Rattle.dets_term.specs.TermValue.{TermValue, integer}
+use Rattle.etf_model.specs.declared.fault.EtfFault.{EtfFault}
+use Rattle.etf_model.specs.declared.fault.EtfFault.TheVariants.{Short, NotVersion, Memory}
+use Rattle.etf_model.specs.Format.{Place, Reading, byte}
+use Rattle.etf_model.specs.Exact.{IsExact}
+use Rattle.etf_model.specs.Layout.{signed, limit}
+use Rattle.etf_model.specs.Exactness.{byte-exact, exact-kept}
+use Rattle.etf_model.specs.SpellingKept.{magnitude-kept}
 use Rattle.etf_codec.specs.declared.big_integer.BigInteger.{BigInteger}
-use Rattle.etf_codec.specs.declared.fault.EtfFault.{EtfFault}
-use Rattle.etf_codec.specs.declared.fault.EtfFault.TheVariants.{Short, NotVersion, Memory}
 use Rattle.etf_codec.specs.declared.frame.Begun.{Begun}
 use Rattle.etf_codec.specs.declared.frame.Frame.{Frame}
 use Rattle.etf_codec.specs.declared.frame.Frame.TheVariants.{Element, Item, Tail, Key, Value}
@@ -17,16 +22,13 @@ use Rattle.etf_codec.specs.declared.term_reader.Stage.TheVariants.{Version, Part
 use Rattle.etf_codec.specs.declared.term_reader.TermReader.{TermReader}
 use Rattle.etf_codec.specs.Begun.{PartFits, AreBegun, MayCome}
 use Rattle.etf_codec.specs.BigIntegers.{bytes_left, integer_read, IntegerReads}
-use Rattle.etf_codec.specs.Format.{Place, Reading, byte}
 use Rattle.etf_codec.specs.GoesOn.{GoesOn}
 use Rattle.etf_codec.specs.Machine.{levels_below, resume, reading_at}
 use Rattle.etf_codec.specs.ReadTerms.{IsLeaf}
 use Rattle.etf_codec.specs.TermReader.{reads_next, reads_on, IsNest, StageFits, IsReader, Completes, VersionReads, NextReads, steps_at, ahead, ReaderReads, StepReads}
 use Rattle.etf_codec.proofs.Bytes.{go_on_ok, go_on_err, test_passes}
-use Rattle.etf_codec.proofs.Exactness.{byte-exact}
 use Rattle.etf_codec.proofs.NextParts.{first_reading}
 use Rattle.etf_codec.proofs.Onward.{stays, goes_on_here, goes_on_then, goes_on_as, whatever_follows, no_longer}
-use Rattle.etf_codec.proofs.SpellingExact.{bytes_left-exact}
 
 -- ---- faults
 
@@ -140,6 +142,11 @@ leaf_comes (b ∷ bs) t l leaf = leaf_fits b.frame (levels_below (b ∷ bs)) t (
 
 pub integer_comes : (begun : List Begun) (t : TermValue) → IsNest begun → IsLeaf t → MayCome (reverse begun) t
 integer_comes begun t nest leaf = leaf_comes (reverse begun) t (omega (arith, nest.0, length-reverse begun)) leaf
+
+bytes_left-exact : (b : BigInteger) → IsExact (bytes_left b)
+bytes_left-exact b =
+    magnitude-kept (λ A F. IsExact F) exact-kept (limit b.sign) (256 ^ b.place) b.magnitude (b.length - b.place)
+    (λ m. integer (signed b.sign m))
 
 module _ (old : TermReader) (reader : IsReader old) (b : BigInteger) (number : old.stage ≡ Number b) (before behind : Place) where
   pub number_whole : (c : BigInteger) (new : TermReader) (t : TermValue) (answer : Result (Option TermValue) EtfFault) → new.stage ≡ Part → IntegerReads b c before behind (Ok t)

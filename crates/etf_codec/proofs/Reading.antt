@@ -1,9 +1,9 @@
 -- What a reader answers at the exit of a call that failed.
 use Rattle.std.proofs.Common.{◌≡◌, ℕ, Bool, true, false, Result, Ok, Err, refl, ap, ◌∙◌, sym}
 use Rattle.std.specs.Result.{IsErrAnd}
-use Rattle.etf_codec.specs.declared.fault.EtfFault.{EtfFault}
-use Rattle.etf_codec.specs.Format.{Place, Format, Reading, byte, followed, framed, judged, go_on}
-use Rattle.etf_codec.specs.Spelling.{tag_of}
+use Rattle.etf_model.specs.declared.fault.EtfFault.{EtfFault}
+use Rattle.etf_model.specs.Format.{Place, Format, Reading, byte, followed, framed, judged, go_on}
+use Rattle.etf_model.specs.Spelling.{tag_of}
 use Rattle.etf_codec.specs.Reads.{Reads, ReadsAs, behind_tag}
 use Rattle.etf_codec.proofs.Bytes.{go_on_ok, go_on_err}
 

@@ -5,12 +5,12 @@ use Rattle.std.specs.List.{list_any}
 use Rattle.dets_term.specs.TermValue.{TermValue, tuple, nil, chain, map_of}
 use Rattle.dets_term.specs.Order.{is_same}
 use Rattle.dets_term.specs.Pairs.{keys, placed}
-use Rattle.etf_codec.specs.declared.fault.EtfFault.TheVariants.{Unsupported, RepeatedKey}
+use Rattle.etf_model.specs.declared.fault.EtfFault.TheVariants.{Unsupported, RepeatedKey}
+use Rattle.etf_model.specs.Format.{Place, Reading, go_on, followed, changed, times, judged}
+use Rattle.etf_model.specs.Layout.{is_known, begins_tail}
+use Rattle.etf_model.specs.Spelling.{part_at, tail_at, pairs_after}
 use Rattle.etf_codec.specs.declared.frame.Begun.{Begun}
 use Rattle.etf_codec.specs.declared.frame.Frame.TheVariants.{Element, Item, Tail, Key, Value}
-use Rattle.etf_codec.specs.Format.{Place, Reading, go_on, followed, changed, times, judged}
-use Rattle.etf_codec.specs.Layout.{is_known, begins_tail}
-use Rattle.etf_codec.specs.Spelling.{part_at, tail_at, pairs_after}
 use Rattle.etf_codec.specs.Machine.{levels_below, map_behind, resume, reading_at}
 use Rattle.etf_codec.proofs.GoOn.{go_on_twice, times-first, times-first-followed, whichever_term}
 

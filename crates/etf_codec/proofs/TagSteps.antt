@@ -1,14 +1,13 @@
 -- A tag that may stand there, and one that is not there.
 use Rattle.std.proofs.Common.{◌≡◌, ℕ, ◌-◌, ◌<◌, Bool, true, Result, Ok, Err, ap, ◌∙◌, sym}
 use Rattle.std.specs.Result.{IsErrAnd}
-use Rattle.etf_codec.specs.declared.fault.EtfFault.{EtfFault}
+use Rattle.etf_model.specs.declared.fault.EtfFault.{EtfFault}
+use Rattle.etf_model.specs.Format.{Place, byte}
+use Rattle.etf_model.specs.Spelling.{term_with, body_of}
+use Rattle.etf_model.specs.Exactness.{byte-exact}
 use Rattle.etf_codec.specs.declared.tags.Position.{Position}
-use Rattle.etf_codec.specs.Format.{Place, byte}
 use Rattle.etf_codec.specs.GoesOn.{GoesOn}
-use Rattle.etf_codec.specs.ReadTerms.{body_of}
-use Rattle.etf_codec.specs.Spelling.{term_with}
 use Rattle.etf_codec.specs.Tags.{terms_at, TagReads}
-use Rattle.etf_codec.proofs.Exactness.{byte-exact}
 use Rattle.etf_codec.proofs.Onward.{goes_on_as, whatever_follows}
 use Rattle.etf_codec.proofs.TermSteps.{term_step}
 

@@ -4,10 +4,9 @@ use Rattle.std.specs.Prelude.{IfOk, IfErr}
 use Rattle.dets_term.specs.TermValue.{TermValue, tuple, nil, chain, elements, is_list, parts_depth, depth}
 use Rattle.dets_term.specs.IsTerm.{built}
 use Rattle.dets_term.specs.Parts.{deepest, parts_depth-chain}
-use Rattle.etf_codec.specs.declared.fault.EtfFault.{EtfFault}
-use Rattle.etf_codec.specs.Format.{Place, Reading, byte, go_on}
-use Rattle.etf_codec.specs.ReadTerms.{body_of}
-use Rattle.etf_codec.specs.Spelling.{count, list_of, no_tail, term_with, part_at, tail_at}
+use Rattle.etf_model.specs.declared.fault.EtfFault.{EtfFault}
+use Rattle.etf_model.specs.Format.{Place, Reading, byte, go_on}
+use Rattle.etf_model.specs.Spelling.{count, list_of, no_tail, term_with, part_at, tail_at, body_of}
 use Rattle.etf_codec.proofs.Bytes.{go_on_ok, go_on_err, test_passes, test_fails}
 use Rattle.etf_codec.proofs.Built.{built_within}
 

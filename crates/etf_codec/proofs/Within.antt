@@ -3,9 +3,9 @@ use Rattle.std.proofs.Common.{◌≡◌, ℕ, ◌⊎◌, Result, Ok, Err, Option
 use Rattle.std.specs.Prelude.{IfOk, IfErr}
 use Rattle.std.specs.Option.{MatchOption, ok_or}
 use Rattle.std.specs.Result.{IsErrAnd}
-use Rattle.etf_codec.specs.declared.fault.EtfFault.{EtfFault}
-use Rattle.etf_codec.specs.declared.fault.EtfFault.TheVariants.{Memory}
-use Rattle.etf_codec.specs.Format.{Place, Format}
+use Rattle.etf_model.specs.declared.fault.EtfFault.{EtfFault}
+use Rattle.etf_model.specs.declared.fault.EtfFault.TheVariants.{Memory}
+use Rattle.etf_model.specs.Format.{Place, Format}
 use Rattle.etf_codec.specs.Reads.{Reads, ReadsWithin}
 
 -- where two formats read the same

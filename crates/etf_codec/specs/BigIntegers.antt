@@ -1,13 +1,13 @@
 -- A big integer of which a part was read. This project's own.
 use Rattle.std.specs.Prelude.{◌≡◌, ◌-◌, ◌^◌, ◌≤◌, Result, Ok, Err}
 use Rattle.dets_term.specs.TermValue.{TermValue, integer}
+use Rattle.etf_model.specs.declared.fault.EtfFault.{EtfFault}
+use Rattle.etf_model.specs.declared.fault.EtfFault.TheVariants.{Short}
+use Rattle.etf_model.specs.Format.{Format, Place, Reading, changed}
+use Rattle.etf_model.specs.Layout.{signed, limit}
+use Rattle.etf_model.specs.Spelling.{magnitude_after}
 use Rattle.etf_codec.specs.declared.big_integer.BigInteger.{BigInteger}
-use Rattle.etf_codec.specs.declared.fault.EtfFault.{EtfFault}
-use Rattle.etf_codec.specs.declared.fault.EtfFault.TheVariants.{Short}
-use Rattle.etf_codec.specs.Format.{Format, Place, Reading, changed}
 use Rattle.etf_codec.specs.GoesOn.{GoesOn}
-use Rattle.etf_codec.specs.Layout.{signed, limit}
-use Rattle.etf_codec.specs.Spelling.{magnitude_after}
 
 -- the magnitude so far is in range, and so many bytes of it were read
 abbrev pub IsBig : BigInteger → Type 0

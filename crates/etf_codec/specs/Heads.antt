@@ -2,15 +2,15 @@
 use Rattle.std.specs.Prelude.{◌≡◌, ◌≢◌, ℕ, suc, ◌≤◌, [], ◌⊎◌, ◌++◌, Result, Ok, Err}
 use Rattle.dets_term.specs.TermValue.{TermValue, tuple, nil, chain, elements, depth}
 use Rattle.dets_term.specs.Pairs.{placed}
-use Rattle.etf_codec.specs.declared.fault.EtfFault.{EtfFault}
-use Rattle.etf_codec.specs.declared.fault.EtfFault.TheVariants.{Memory}
+use Rattle.etf_model.specs.declared.fault.EtfFault.{EtfFault}
+use Rattle.etf_model.specs.declared.fault.EtfFault.TheVariants.{Memory}
+use Rattle.etf_model.specs.Format.{Format, Place, Reading, followed, changed, times}
+use Rattle.etf_model.specs.Spelling.{part_at, tail_at}
 use Rattle.etf_codec.specs.declared.frame.Frame.{Frame}
 use Rattle.etf_codec.specs.declared.frame.Frame.TheVariants.{Element, Item, Tail, Key, Value}
 use Rattle.etf_codec.specs.declared.head.Head.{Head}
 use Rattle.etf_codec.specs.declared.head.Head.TheVariants.{Whole, Begun, Number}
 use Rattle.etf_codec.specs.BigIntegers.{IsBig, integer_read}
-use Rattle.etf_codec.specs.Format.{Format, Place, Reading, followed, changed, times}
-use Rattle.etf_codec.specs.Spelling.{part_at, tail_at}
 use Rattle.etf_codec.specs.GoesOn.{GoesOn}
 use Rattle.etf_codec.specs.Machine.{map_behind}
 use Rattle.etf_codec.specs.Begun.{FrameFits, MayBegin}

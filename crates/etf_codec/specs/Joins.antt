@@ -1,13 +1,13 @@
 -- What a begun term becomes with its next part. This project's own.
 use Rattle.std.specs.Prelude.{◌≡◌, ℕ, ◌+◌, ◌≤◌, ◌⊎◌, List, ◌∷◌, Result, Ok, Err}
 use Rattle.dets_term.specs.TermValue.{TermValue, depth}
-use Rattle.etf_codec.specs.declared.fault.EtfFault.{EtfFault}
-use Rattle.etf_codec.specs.declared.fault.EtfFault.TheVariants.{Memory, RepeatedKey}
+use Rattle.etf_model.specs.declared.fault.EtfFault.{EtfFault}
+use Rattle.etf_model.specs.declared.fault.EtfFault.TheVariants.{Memory, RepeatedKey}
+use Rattle.etf_model.specs.Format.{Place}
 use Rattle.etf_codec.specs.declared.frame.Begun.{Begun}
 use Rattle.etf_codec.specs.declared.frame.Frame.{Frame}
 use Rattle.etf_codec.specs.declared.joining.Joined.{Joined}
 use Rattle.etf_codec.specs.declared.joining.Joined.TheVariants.{Whole, Open}
-use Rattle.etf_codec.specs.Format.{Place}
 use Rattle.etf_codec.specs.Machine.{resume, reading_at}
 use Rattle.etf_codec.specs.Begun.{FrameFits, PartFits, MayBegin}
 

@@ -5,12 +5,12 @@ use Rattle.std.specs.List.{list_any}
 use Rattle.dets_term.specs.TermValue.{TermValue, tuple, nil, chain, map_of}
 use Rattle.dets_term.specs.Order.{is_same}
 use Rattle.dets_term.specs.Pairs.{keys, placed}
-use Rattle.etf_codec.specs.declared.fault.EtfFault.TheVariants.{RepeatedKey}
+use Rattle.etf_model.specs.declared.fault.EtfFault.TheVariants.{RepeatedKey}
+use Rattle.etf_model.specs.Format.{Format, Place, Reading, go_on, followed, changed, times}
+use Rattle.etf_model.specs.Spelling.{part_at, tail_at, outermost, pairs_after}
 use Rattle.etf_codec.specs.declared.frame.Begun.{Begun}
 use Rattle.etf_codec.specs.declared.frame.Frame.{Frame}
 use Rattle.etf_codec.specs.declared.frame.Frame.TheVariants.{Element, Item, Tail, Key, Value}
-use Rattle.etf_codec.specs.Format.{Format, Place, Reading, go_on, followed, changed, times}
-use Rattle.etf_codec.specs.Spelling.{part_at, tail_at, outermost, pairs_after}
 
 -- how many levels are left below the parts of the innermost of these
 abbrev pub levels_below : List Begun → ℕ

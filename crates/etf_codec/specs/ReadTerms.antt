@@ -1,11 +1,9 @@
 -- The terms that readers read. This project's own.
 use Rattle.std.specs.Prelude.{◌≡◌, ℕ, Bool, true, false, List, [], Result, Ok, Err, ◌⊎◌}
 use Rattle.dets_term.specs.TermValue.{TermValue, atom, parts_depth, elements}
-use Rattle.etf_codec.specs.declared.fault.EtfFault.{EtfFault}
-use Rattle.etf_codec.specs.declared.fault.EtfFault.TheVariants.{Memory, BadAtom}
-use Rattle.etf_codec.specs.Format.{Format}
-use Rattle.etf_codec.specs.Layout.{is_name, characters}
-use Rattle.etf_codec.specs.Spelling.{body, part_at, tail_at}
+use Rattle.etf_model.specs.declared.fault.EtfFault.{EtfFault}
+use Rattle.etf_model.specs.declared.fault.EtfFault.TheVariants.{Memory, BadAtom}
+use Rattle.etf_model.specs.Layout.{is_name, characters}
 
 -- a term without parts
 abbrev pub IsLeaf : TermValue → Type 0
@@ -15,7 +13,3 @@ IsLeaf t = (parts_depth t ≡ 0) × (elements t ≡ [])
 abbrev pub IsAtomOf : Bool → List ℕ → ℕ → Result TermValue EtfFault → Type 0
 IsAtomOf utf8 bytes term (Ok t) = (is_name utf8 bytes ≡ true) × (t ≡ atom (characters utf8 bytes))
 IsAtomOf utf8 bytes term (Err fault) = (fault ≡ Memory) ⊎ ((is_name utf8 bytes ≡ false) × (fault ≡ BadAtom term))
-
--- what follows a tag, below which so many levels are left
-unfoldable pub body_of : ℕ → ℕ → Format TermValue
-body_of levels tag = body (part_at levels) (tail_at levels) levels tag

@@ -1,8 +1,8 @@
 -- What a reader answers, told by its format. This project's own.
 use Rattle.std.specs.Prelude.{◌≡◌, ℕ, ◌+◌, Bool, cond, List, Result, Ok, Err, ◌⊎◌, drop}
-use Rattle.etf_codec.specs.declared.fault.EtfFault.{EtfFault}
-use Rattle.etf_codec.specs.declared.fault.EtfFault.TheVariants.{Memory}
-use Rattle.etf_codec.specs.Format.{Format, Place, Reading}
+use Rattle.etf_model.specs.declared.fault.EtfFault.{EtfFault}
+use Rattle.etf_model.specs.declared.fault.EtfFault.TheVariants.{Memory}
+use Rattle.etf_model.specs.Format.{Format, Place, Reading}
 
 -- the place behind so many of some bytes that begin at an offset
 abbrev pub place_at : ℕ → List ℕ → ℕ → Place

@@ -1,18 +1,17 @@
 -- Where a term stands, and the tags that may begin it there. This project's own.
 use Rattle.std.specs.Prelude.{◌≡◌, ◌≢◌, ℕ, ◌<◌, ◌-◌, cond, ◌==◌, List, [], ◌∷◌, Result, Ok, Err}
 use Rattle.dets_term.specs.TermValue.{TermValue}
-use Rattle.etf_codec.specs.declared.fault.EtfFault.{EtfFault}
-use Rattle.etf_codec.specs.declared.fault.EtfFault.TheVariants.{Unsupported, Compressed}
+use Rattle.etf_model.specs.declared.fault.EtfFault.{EtfFault}
+use Rattle.etf_model.specs.declared.fault.EtfFault.TheVariants.{Unsupported, Compressed}
+use Rattle.etf_model.specs.Format.{Format, Place}
+use Rattle.etf_model.specs.Layout.{is_known}
+use Rattle.etf_model.specs.Spelling.{term_with, part_at, tail_at, body_of}
 use Rattle.etf_codec.specs.declared.frame.Begun.{Begun}
 use Rattle.etf_codec.specs.declared.frame.Frame.{Frame}
 use Rattle.etf_codec.specs.declared.frame.Frame.TheVariants.{Tail as TailFrame}
 use Rattle.etf_codec.specs.declared.tags.Position.{Position}
 use Rattle.etf_codec.specs.declared.tags.Position.TheVariants.{First, Part, Tail}
-use Rattle.etf_codec.specs.Format.{Format, Place}
 use Rattle.etf_codec.specs.GoesOn.{GoesOn}
-use Rattle.etf_codec.specs.Layout.{is_known}
-use Rattle.etf_codec.specs.ReadTerms.{body_of}
-use Rattle.etf_codec.specs.Spelling.{term_with, part_at, tail_at}
 
 -- the terms that may stand there, with so many levels at and below them
 abbrev pub terms_at : Position → ℕ → Format TermValue

@@ -1,14 +1,14 @@
 -- The terms that are begun while a term is read, the innermost last, and what is read next. This project's own.
 use Rattle.std.specs.Prelude.{◌≡◌, ◌≢◌, ℕ, ◌≤◌, ◌+◌, ◌*◌, ◌⊎◌, List, [], ◌∷◌, reverse, length, Option, Some, None, Result, Ok, Err}
 use Rattle.dets_term.specs.TermValue.{TermValue}
-use Rattle.etf_codec.specs.declared.fault.EtfFault.{EtfFault}
-use Rattle.etf_codec.specs.declared.fault.EtfFault.TheVariants.{Short, Memory}
+use Rattle.etf_model.specs.declared.fault.EtfFault.{EtfFault}
+use Rattle.etf_model.specs.declared.fault.EtfFault.TheVariants.{Short, Memory}
+use Rattle.etf_model.specs.Format.{Place, Reading, go_on}
+use Rattle.etf_model.specs.Spelling.{spelling}
 use Rattle.etf_codec.specs.declared.frame.Begun.{Begun}
 use Rattle.etf_codec.specs.declared.term_reader.Stage.{Stage}
 use Rattle.etf_codec.specs.declared.term_reader.TermReader.{TermReader}
 use Rattle.etf_codec.specs.declared.term_reader.Stage.TheVariants.{Version, Part, Number}
-use Rattle.etf_codec.specs.Format.{Place, Reading, go_on}
-use Rattle.etf_codec.specs.Spelling.{spelling}
 use Rattle.etf_codec.specs.Machine.{resume, reading_at}
 use Rattle.etf_codec.specs.declared.head.Head.{Head}
 use Rattle.etf_codec.specs.declared.head.Head.TheVariants.{Whole, Begun as Opened, Number as Big}

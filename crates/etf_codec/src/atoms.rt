@@ -1,9 +1,9 @@
 ghost use Rattle.std.specs.Prelude.{◌≡◌, ◌≤◌, ◌<◌, ◌⊎◌, true, false, length, IfOk, IfErr};
 ghost use Rattle.std.specs.Str.{chars};
 ghost use Rattle.dets_term.specs.TermValue.{atom};
+ghost use Rattle.etf_model.specs.Spelling.{name};
 ghost use Rattle.etf_codec.specs.Reads.{ReadsWithin};
 ghost use Rattle.etf_codec.specs.ReadTerms.{IsLeaf, IsAtomOf};
-ghost use Rattle.etf_codec.specs.Spelling.{name};
 
 use crate::EtfFault;
 use crate::cursor::Cursor;

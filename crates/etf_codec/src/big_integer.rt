@@ -1,6 +1,6 @@
 ghost use Rattle.std.specs.Prelude.{◌≡◌, ◌≤◌, ◌<◌, ◌+◌, ◌*◌, ◌^◌, IfOk, MatchOption};
+ghost use Rattle.etf_model.specs.Layout.{signed, limit};
 ghost use Rattle.etf_codec.specs.BigIntegers.{IsBig, IntegerReads};
-ghost use Rattle.etf_codec.specs.Layout.{signed, limit};
 ghost use Rattle.etf_codec.specs.ReadTerms.{IsLeaf};
 
 use crate::EtfFault;

@@ -1,9 +1,9 @@
 //! Bit strings.
 ghost use Rattle.std.specs.Prelude.{◌≡◌, ℕ, IfOk};
-ghost use Rattle.etf_codec.specs.Layout.{may_use};
+ghost use Rattle.etf_model.specs.Layout.{may_use};
+ghost use Rattle.etf_model.specs.Spelling.{binary, bit_binary};
 ghost use Rattle.etf_codec.specs.Reads.{ReadsWithin};
 ghost use Rattle.etf_codec.specs.ReadTerms.{IsLeaf};
-ghost use Rattle.etf_codec.specs.Spelling.{binary, bit_binary};
 
 use crate::EtfFault;
 use crate::building::bit_string;

@@ -1,7 +1,7 @@
 ghost use Rattle.std.specs.Prelude.{◌≡◌, ℕ, ◌<◌, ◌≤◌, ◌+◌, ◌^◌, length, IfOk, IfErr, OnErr};
-ghost use Rattle.etf_codec.specs.Format.{byte, times};
+ghost use Rattle.etf_model.specs.Format.{byte, times};
+ghost use Rattle.etf_model.specs.Spelling.{number, sized, count};
 ghost use Rattle.etf_codec.specs.Reads.{Reads};
-ghost use Rattle.etf_codec.specs.Spelling.{number, sized, count};
 
 use crate::EtfFault;
 use std::marker::Model;
@@ -16,7 +16,7 @@ pub struct Cursor<'a> {
 
 impl<'a> Model for Cursor<'a> {
     ghost use Rattle.std.specs.Prelude.{◌≤◌, ◌<◌, ◌+◌, ◌^◌, length};
-    ghost use Rattle.etf_codec.specs.Format.{Place};
+    ghost use Rattle.etf_model.specs.Format.{Place};
     ghost use Rattle.etf_codec.specs.Reads.{place_at};
 
     ghost Value = { Place };

@@ -1,5 +1,5 @@
 //! Decoding of spellings.
-ghost use Rattle.etf_codec.specs.Decoding.{IsDecoding};
+ghost use Rattle.etf_model.specs.Decoding.{IsDecoding};
 
 use crate::EtfFault;
 use crate::cursor::Cursor;

@@ -1,13 +1,12 @@
 ghost use Rattle.std.specs.Prelude.{◌≡◌, ◌<◌, ◌+◌, ◌^◌, [], ◌++◌, length, true, false, None, Ok, Err, IfOk, IfErr, OnOk, OnErr};
-ghost use Rattle.etf_codec.specs.Answers.{Answers};
-ghost use Rattle.etf_codec.specs.FeedState.{FeedState, total, front_of, failed};
-ghost use Rattle.etf_codec.specs.Next.{Gives, IsNext};
-ghost use Rattle.etf_codec.specs.Spelling.{spelling, IsPart};
+ghost use Rattle.etf_model.specs.Answers.{Answers};
+ghost use Rattle.etf_model.specs.FeedState.{FeedState, total, front_of, failed};
+ghost use Rattle.etf_model.specs.Next.{Gives, IsNext};
+ghost use Rattle.etf_model.specs.Spelling.{spelling, IsPart};
 
 use crate::cursor::Cursor;
-use crate::fed::Fed;
 use crate::term_reader::TermReader;
-use crate::{EtfFault, Memory};
+use crate::{EtfFault, Fed, Memory};
 use bytes::BytesMut;
 use dets_term::Term;
 use std::alloc::Global;
@@ -34,7 +33,7 @@ pub struct TermFeed {
 }
 
 impl Model for TermFeed {
-    ghost use Rattle.etf_codec.specs.FeedState.{FeedState};
+    ghost use Rattle.etf_model.specs.FeedState.{FeedState};
 
     ghost Value = { FeedState };
 

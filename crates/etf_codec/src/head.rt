@@ -1,8 +1,7 @@
 //! What stands behind a tag.
 ghost use Rattle.std.specs.Prelude.{ℕ, ◌≤◌};
+ghost use Rattle.etf_model.specs.Spelling.{part_at, tail_at, tuple_of, list_of, map_format, big_integer, body_of};
 ghost use Rattle.etf_codec.specs.Heads.{HeadReads, HeadFits};
-ghost use Rattle.etf_codec.specs.ReadTerms.{body_of};
-ghost use Rattle.etf_codec.specs.Spelling.{part_at, tail_at, tuple_of, list_of, map_format, big_integer};
 
 use crate::EtfFault;
 use crate::big_integer::BigInteger;

@@ -1,9 +1,9 @@
 //! Terms without parts.
 ghost use Rattle.std.specs.Prelude.{◌≡◌, ℕ, ◌≢◌, IfOk, IfErr};
 ghost use Rattle.dets_term.specs.TermValue.{nil};
+ghost use Rattle.etf_model.specs.Spelling.{no_tail, body_of};
 ghost use Rattle.etf_codec.specs.Reads.{ReadsWithin};
-ghost use Rattle.etf_codec.specs.ReadTerms.{IsLeaf, body_of};
-ghost use Rattle.etf_codec.specs.Spelling.{no_tail};
+ghost use Rattle.etf_codec.specs.ReadTerms.{IsLeaf};
 
 use crate::EtfFault;
 use crate::atoms::read_atom;

@@ -1,11 +1,11 @@
 //! Integers of one and of four bytes.
 ghost use Rattle.std.specs.Prelude.{◌≡◌, ℕ, pos, IfOk};
 ghost use Rattle.dets_term.specs.TermValue.{integer};
-ghost use Rattle.etf_codec.specs.Format.{byte, changed};
-ghost use Rattle.etf_codec.specs.Layout.{signed_32};
+ghost use Rattle.etf_model.specs.Format.{byte, changed};
+ghost use Rattle.etf_model.specs.Layout.{signed_32};
+ghost use Rattle.etf_model.specs.Spelling.{number};
 ghost use Rattle.etf_codec.specs.Reads.{Reads};
 ghost use Rattle.etf_codec.specs.ReadTerms.{IsLeaf};
-ghost use Rattle.etf_codec.specs.Spelling.{number};
 
 use crate::EtfFault;
 use crate::cursor::Cursor;

@@ -1,7 +1,7 @@
 ghost use Rattle.std.specs.Prelude.{ℕ, ◌≤◌, ◌+◌, ◌*◌, ◌<◌, ◌^◌};
+ghost use Rattle.etf_model.specs.Skipping.{has_layout, gap, sized_gap, node, at_node, reference, parts, counted, skip_body, skipped_at, SkipsBy};
+ghost use Rattle.etf_model.specs.declared.fault.EtfFault.TheVariants.{Unsupported};
 ghost use Rattle.etf_codec.specs.Reads.{Reads, ReadsAs, behind_tag};
-ghost use Rattle.etf_codec.specs.Skipping.{has_layout, gap, sized_gap, node, at_node, reference, parts, counted, skip_body, skipped_at, SkipsBy};
-ghost use Rattle.etf_codec.specs.declared.fault.EtfFault.TheVariants.{Unsupported};
 
 use crate::EtfFault;
 use crate::cursor::Cursor;

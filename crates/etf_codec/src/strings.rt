@@ -1,9 +1,9 @@
 //! Lists of bytes.
 ghost use Rattle.std.specs.Prelude.{◌≡◌, ◌≤◌, ◌<◌, ◌^◌, suc, length, IfOk, IfErr};
 ghost use Rattle.dets_term.specs.TermValue.{depth};
-ghost use Rattle.etf_codec.specs.Layout.{integers};
+ghost use Rattle.etf_model.specs.Layout.{integers};
+ghost use Rattle.etf_model.specs.Spelling.{string};
 ghost use Rattle.etf_codec.specs.Reads.{ReadsWithin};
-ghost use Rattle.etf_codec.specs.Spelling.{string};
 
 use crate::EtfFault;
 use crate::building::only_memory;

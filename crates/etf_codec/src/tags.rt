@@ -1,6 +1,6 @@
 //! Tags, and where they may stand.
 ghost use Rattle.std.specs.Prelude.{◌≡◌, ◌<◌, ◌==◌, cond, length, IfOk};
-ghost use Rattle.etf_codec.specs.Layout.{is_known, begins_tail};
+ghost use Rattle.etf_model.specs.Layout.{is_known, begins_tail};
 ghost use Rattle.etf_codec.specs.Tags.{TagReads, BeginsTail};
 ghost use Rattle.etf_codec.specs.declared.tags.Position.TheVariants.{First, Part, Tail};
 

@@ -3,7 +3,7 @@ use Rattle.std.proofs.Common.{◌≡◌, ℕ, ◌<◌, ◌≤◌, ◌^◌, Bool,
 use Rattle.std.proofs.lemmas.List.{take-append-drop}
 use Rattle.std.proofs.lemmas.Bool.{and_parts, and_from}
 use Rattle.dets_term.specs.TermValue.{TermValue}
-use Rattle.etf_codec.specs.declared.fed.Fed.TheVariants.{Again, End}
+use Rattle.etf_model.specs.declared.fed.Fed.TheVariants.{Again, End}
 use Rattle.term_text.specs.declared.feed.TextFault.TheVariants.{NotYet}
 use Rattle.term_text.specs.Token.{is_white, each, IsSentence}
 use Rattle.term_text.specs.Machine.{Place, want, opened, after, whole, stopped, ReaderState, first_state, run}

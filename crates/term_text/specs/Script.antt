@@ -2,8 +2,8 @@
 -- project's own, after the files of terms that `file:consult/1` of the Erlang manual reads.
 use Rattle.std.specs.Prelude.{◌≡◌, ℕ, ◌≤◌, ◌^◌, Bool, true, false, List, [], ◌∷◌, ◌++◌, take, drop, Result, Ok, Err}
 use Rattle.dets_term.specs.TermValue.{TermValue}
-use Rattle.etf_codec.specs.declared.fed.Fed.{Fed}
-use Rattle.etf_codec.specs.declared.fed.Fed.TheVariants.{Again, End}
+use Rattle.etf_model.specs.declared.fed.Fed.{Fed}
+use Rattle.etf_model.specs.declared.fed.Fed.TheVariants.{Again, End}
 use Rattle.term_text.specs.declared.feed.TextFault.{TextFault}
 use Rattle.term_text.specs.declared.feed.TextFault.TheVariants.{NotYet}
 use Rattle.term_text.specs.Token.{is_white, each, IsSentence}

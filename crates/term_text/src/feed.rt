@@ -8,7 +8,7 @@ ghost use Rattle.term_text.specs.declared.feed.TextFault.TheVariants.{Memory as 
 
 use crate::Memory;
 use crate::reader::{Reader, is_white_space};
-use etf_codec::Fed;
+use etf_model::Fed;
 use std::alloc::{AllocFailed, Global};
 use std::marker::Model;
 

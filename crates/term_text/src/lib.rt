@@ -1,11 +1,11 @@
 //! Erlang's terms as text, both ways.
 //!
-//! Stands on `dets_term`, `etf_codec` and `itoa`. `print` writes the printed form of a term. `TextFeed` reads printed terms
+//! Stands on `dets_term`, `etf_model` and `itoa`. `print` writes the printed form of a term. `TextFeed` reads printed terms
 //! from a stream that comes in any pieces: so far integers, plain atoms, tuples, lists and white space, each
 //! term followed by a full stop.
 #![tactic(auto)]
 
-pub use etf_codec::Fed;
+pub use etf_model::Fed;
 pub use feed::{TextFault, TextFeed};
 pub use laws::{
     a_fault_stays_whatever_follows, a_piece_has_the_first_terms_of_the_whole,

@@ -1,5 +1,5 @@
 ghost use Rattle.std.specs.Prelude.{◌≡◌, ◌<◌, ◌≤◌, ◌+◌, ◌^◌, length, false, OnOk};
-ghost use Rattle.etf_codec.specs.FeedState.{total};
+ghost use Rattle.etf_model.specs.FeedState.{total};
 
 use super::TermFeed;
 use crate::{EtfFault, Fed, Memory, encode};

@@ -1,4 +1,4 @@
-use Rattle.etf_codec.specs.Spelling.{binary}
+use Rattle.etf_model.specs.Spelling.{binary}
 use Rattle.etf_codec.proofs.Bytes.{go_on_ok, go_on_err}
 use Rattle.etf_codec.proofs.Within.{within_fault, within_made}
 use Rattle.etf_codec.proofs.bits.read_binary.Goals as goal

@@ -1,7 +1,7 @@
 use Rattle.std.proofs.Common.{◌∙◌, inr, sym}
-use Rattle.etf_codec.specs.declared.fault.EtfFault.TheVariants.{BadBits}
-use Rattle.etf_codec.specs.Layout.{may_use}
-use Rattle.etf_codec.specs.Spelling.{bit_binary}
+use Rattle.etf_model.specs.declared.fault.EtfFault.TheVariants.{BadBits}
+use Rattle.etf_model.specs.Layout.{may_use}
+use Rattle.etf_model.specs.Spelling.{bit_binary}
 use Rattle.etf_codec.proofs.Bytes.{go_on_ok, go_on_err, test_passes, test_fails}
 use Rattle.etf_codec.proofs.Within.{within_fault, within_made}
 use Rattle.etf_codec.proofs.bits.read_bit_binary.Goals as goal

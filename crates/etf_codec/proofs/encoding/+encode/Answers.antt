@@ -4,11 +4,12 @@ use Rattle.std.specs.Option.{option_copied}
 use Rattle.dets_term.specs.TermValue.{depth}
 use Rattle.dets_term.specs.Node.{shown, IsSound}
 use Rattle.dets_term.specs.Parts.{deepest_bounds}
-use Rattle.etf_codec.specs.Canonical.{canonical}
+use Rattle.etf_model.specs.Canonical.{canonical}
+use Rattle.etf_model.specs.CanonicalWholes.{canonical-tuple, canonical-map}
 use Rattle.etf_codec.proofs.CanonicalParts.{written-more, written-all, element_within}
-use Rattle.etf_codec.proofs.CanonicalWholes.{canonical-tuple, canonical-map, canonical-string, canonical-list, canonical-improper, tuple-fits, list-fits, improper-fits, map-fits, bits-fit, tuple-falls, list-falls, map-falls, improper-falls, pair-falls}
-use Rattle.etf_codec.proofs.encoding.+encode.Goals as goal
+use Rattle.etf_codec.proofs.CanonicalLists.{canonical-string, canonical-list, canonical-improper, tuple-fits, list-fits, improper-fits, map-fits, bits-fit, tuple-falls, list-falls, map-falls, improper-falls, pair-falls}
 use Rattle.etf_codec.proofs.encoding.+encode.Goals.{encode_each-in-Some+in_ok-encode_term, encode_each-in_default, encode_pairs-in-Some+in_ok-encode_term+in_ok-encode_term-2, encode_pairs-in_default}
+use Rattle.etf_codec.proofs.encoding.+encode.Goals as goal
 
 pub encode_each-encode_term-requires : goal.encode_each-encode_term-requires
 encode_each-encode_term-requires t c =

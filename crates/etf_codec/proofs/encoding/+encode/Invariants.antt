@@ -2,7 +2,7 @@ use Rattle.std.proofs.Common.{◌≡◌, ◌+◌, ◌*◌, ◌++◌, drop}
 use Rattle.std.specs.List.{flat_map}
 use Rattle.dets_term.specs.TermValue.{depth}
 use Rattle.dets_term.specs.Parts.{deepest, deepest_of_pairs}
-use Rattle.etf_codec.specs.Canonical.{canonical}
+use Rattle.etf_model.specs.Canonical.{canonical}
 use Rattle.etf_codec.proofs.encoding.+encode.Given as goal
 
 abbrev pub decreases-encode_term : goal.decreases-encode_term

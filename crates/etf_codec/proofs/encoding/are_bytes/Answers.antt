@@ -1,7 +1,7 @@
 use Rattle.std.proofs.Common.{◌∙◌, ◌+◌, ◌&&◌, sym, ap, arith, length, drop}
 use Rattle.std.specs.List.{list_all}
 use Rattle.std.proofs.lemmas.Bool.{and_from, and_left, and_right, le-leb}
-use Rattle.etf_codec.specs.Canonical.{is_byte}
+use Rattle.etf_model.specs.Canonical.{is_byte}
 use Rattle.etf_codec.proofs.CanonicalParts.{drop-get, drop-end, looked-at, byte-is_some}
 use Rattle.etf_codec.proofs.encoding.are_bytes.Goals as goal
 

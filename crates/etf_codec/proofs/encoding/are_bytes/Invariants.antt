@@ -1,6 +1,6 @@
 use Rattle.std.proofs.Common.{◌≡◌, drop}
 use Rattle.std.specs.List.{list_all}
-use Rattle.etf_codec.specs.Canonical.{is_byte}
+use Rattle.etf_model.specs.Canonical.{is_byte}
 use Rattle.etf_codec.proofs.encoding.are_bytes.Given as goal
 
 -- what is left decides

@@ -1,6 +1,6 @@
 use Rattle.std.proofs.Common.{sym, ap, ◌∙◌}
 use Rattle.std.proofs.lemmas.Bool.{cond-false}
-use Rattle.etf_codec.specs.Canonical.{is_byte}
+use Rattle.etf_model.specs.Canonical.{is_byte}
 use Rattle.etf_codec.proofs.CanonicalParts.{is_byte-other}
 use Rattle.etf_codec.proofs.encoding.byte_of.Goals as goal
 

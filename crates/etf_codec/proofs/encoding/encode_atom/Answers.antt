@@ -1,6 +1,6 @@
 use Rattle.std.proofs.Common.{ap, append_assoc}
 use Rattle.std.proofs.lemmas.Str.{encodes-chars}
-use Rattle.etf_codec.specs.Canonical.{text_spelling}
+use Rattle.etf_model.specs.Canonical.{text_spelling}
 use Rattle.etf_codec.proofs.CanonicalParts.{name-fits}
 use Rattle.etf_codec.proofs.encoding.encode_atom.Goals as goal
 

@@ -1,9 +1,9 @@
 use Rattle.std.proofs.Common.{◌∙◌, ◌++◌, ◌∷◌, [], sym, ap, refl, arith, map, append_assoc}
 use Rattle.std.proofs.lemmas.Bool.{and_parts, cond-true}
-use Rattle.etf_codec.specs.Canonical.{byte_value}
+use Rattle.etf_model.specs.Canonical.{byte_value}
 use Rattle.etf_codec.proofs.CanonicalParts.{written-more, written-all, looked-at, byte-some, all_bytes-at}
-use Rattle.etf_codec.proofs.encoding.encode_string.Goals as goal
 use Rattle.etf_codec.proofs.encoding.encode_string.Goals.{in-Some+in_ok-push-2, in_default}
+use Rattle.etf_codec.proofs.encoding.encode_string.Goals as goal
 
 pub loop-place-preserved : goal.loop-place-preserved
 loop-place-preserved c =

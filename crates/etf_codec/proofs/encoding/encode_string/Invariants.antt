@@ -1,5 +1,5 @@
 use Rattle.std.proofs.Common.{◌≡◌, ◌++◌, drop, map}
-use Rattle.etf_codec.specs.Canonical.{byte_value}
+use Rattle.etf_model.specs.Canonical.{byte_value}
 use Rattle.etf_codec.proofs.encoding.encode_string.Given as goal
 
 -- what is written, and what is left from this place on, are all bytes

@@ -1,5 +1,5 @@
 use Rattle.std.proofs.Common.{◌∙◌, refl, inr}
-use Rattle.etf_codec.specs.Spelling.{big_integer}
+use Rattle.etf_model.specs.Spelling.{big_integer}
 use Rattle.etf_codec.proofs.Bytes.{go_on_ok, go_on_err}
 use Rattle.etf_codec.proofs.HeadSteps.{integer_opens, head_fault}
 use Rattle.etf_codec.proofs.head.integer_head.Goals as goal

@@ -1,5 +1,5 @@
 use Rattle.std.proofs.Common.{arith, ◌∙◌}
-use Rattle.etf_codec.specs.Spelling.{list_of, part_at, tail_at}
+use Rattle.etf_model.specs.Spelling.{list_of, part_at, tail_at}
 use Rattle.etf_codec.proofs.TermSteps.{list_none, or_else}
 use Rattle.etf_codec.proofs.HeadSteps.{list_opens, head_fault}
 use Rattle.etf_codec.proofs.head.list_head.Goals as goal

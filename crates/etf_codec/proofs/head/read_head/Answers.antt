@@ -1,6 +1,5 @@
 use Rattle.std.proofs.Common.{◌∙◌, arith}
-use Rattle.etf_codec.specs.ReadTerms.{body_of}
-use Rattle.etf_codec.specs.Spelling.{tuple_of, list_of, map_format, big_integer, part_at, tail_at}
+use Rattle.etf_model.specs.Spelling.{tuple_of, list_of, map_format, big_integer, part_at, tail_at, body_of}
 use Rattle.etf_codec.proofs.Bodies.{body-small_tuple, body-large_tuple, body-string, body-list, body-map, body-small_big, body-large_big}
 use Rattle.etf_codec.proofs.TermSteps.{or_else}
 use Rattle.etf_codec.proofs.HeadSteps.{head_same, head_fault, fits_as}

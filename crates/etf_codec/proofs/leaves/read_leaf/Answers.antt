@@ -1,9 +1,8 @@
 use Rattle.std.proofs.Common.{pos, true, false, arith}
 use Rattle.dets_term.specs.TermValue.{integer}
-use Rattle.etf_codec.specs.Format.{byte, changed}
-use Rattle.etf_codec.specs.Layout.{signed_32}
-use Rattle.etf_codec.specs.ReadTerms.{body_of}
-use Rattle.etf_codec.specs.Spelling.{number, name, binary, bit_binary}
+use Rattle.etf_model.specs.Format.{byte, changed}
+use Rattle.etf_model.specs.Layout.{signed_32}
+use Rattle.etf_model.specs.Spelling.{number, name, binary, bit_binary, body_of}
 use Rattle.etf_codec.proofs.Bodies.{body-empty_list, body-small_integer, body-integer_32, body-atom, body-small_atom, body-atom_utf8, body-small_atom_utf8, body-binary, body-bit_binary}
 use Rattle.etf_codec.proofs.Within.{within_reads, within_same, within_made}
 use Rattle.etf_codec.proofs.leaves.read_leaf.Goals as goal

@@ -1,7 +1,7 @@
 use Rattle.std.proofs.Common.{◌≡◌, ◌∙◌, ◌==◌, true, false, inr, arith, sym, ap, Err}
 use Rattle.std.proofs.lemmas.Bool.Decides.{nat_tests}
-use Rattle.etf_codec.specs.declared.fault.EtfFault.TheVariants.{Unsupported}
-use Rattle.etf_codec.specs.Spelling.{no_tail}
+use Rattle.etf_model.specs.declared.fault.EtfFault.TheVariants.{Unsupported}
+use Rattle.etf_model.specs.Spelling.{no_tail}
 use Rattle.etf_codec.proofs.Bytes.{go_on_ok, go_on_err, test_passes, test_fails}
 use Rattle.etf_codec.proofs.Within.{within_fault, within_made}
 use Rattle.etf_codec.proofs.leaves.read_no_tail.Goals as goal

@@ -1,7 +1,7 @@
 use Rattle.dets_term.specs.TermValue.{integer}
-use Rattle.etf_codec.specs.Format.{changed}
-use Rattle.etf_codec.specs.Layout.{signed_32}
-use Rattle.etf_codec.specs.Spelling.{number}
+use Rattle.etf_model.specs.Format.{changed}
+use Rattle.etf_model.specs.Layout.{signed_32}
+use Rattle.etf_model.specs.Spelling.{number}
 use Rattle.etf_codec.proofs.Bytes.{go_on_ok, go_on_err}
 use Rattle.etf_codec.proofs.HandedOn.{int_value}
 use Rattle.etf_codec.proofs.Reading.{reads_fault}

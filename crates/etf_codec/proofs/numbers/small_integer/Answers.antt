@@ -1,6 +1,6 @@
 use Rattle.std.proofs.Common.{pos}
 use Rattle.dets_term.specs.TermValue.{integer}
-use Rattle.etf_codec.specs.Format.{byte, changed}
+use Rattle.etf_model.specs.Format.{byte, changed}
 use Rattle.etf_codec.proofs.Bytes.{go_on_ok, go_on_err}
 use Rattle.etf_codec.proofs.HandedOn.{int_value}
 use Rattle.etf_codec.proofs.Reading.{reads_fault}

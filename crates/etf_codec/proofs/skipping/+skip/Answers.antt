@@ -1,8 +1,8 @@
 use Rattle.std.proofs.Common.{◌+◌, ◌*◌, ◌-◌, Err, refl, ap, ◌∙◌, sym, subst, arith}
-use Rattle.etf_codec.specs.declared.fault.EtfFault.TheVariants.{Depth}
-use Rattle.etf_codec.specs.Spelling.{number}
+use Rattle.etf_model.specs.declared.fault.EtfFault.TheVariants.{Depth}
+use Rattle.etf_model.specs.Spelling.{number}
+use Rattle.etf_model.specs.Skipping.{parts, skipped_at}
 use Rattle.etf_codec.specs.Reads.{Reads}
-use Rattle.etf_codec.specs.Skipping.{parts, skipped_at}
 use Rattle.etf_codec.proofs.Reading.{reads_behind, reads_fault}
 use Rattle.etf_codec.proofs.Passing.{parts_more, parts_fail, at_tag, term_behind, term_deep, term_end}
 use Rattle.etf_codec.proofs.skipping.+skip.Goals as goal

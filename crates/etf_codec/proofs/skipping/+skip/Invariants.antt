@@ -1,5 +1,5 @@
 use Rattle.std.proofs.Common.{ℕ, ◌+◌, ◌-◌, ◌*◌, ◌≡◌}
-use Rattle.etf_codec.specs.Skipping.{parts, skipped_at}
+use Rattle.etf_model.specs.Skipping.{parts, skipped_at}
 use Rattle.etf_codec.proofs.skipping.+skip.Given as goal
 
 -- levels, and within a level the calls in their order

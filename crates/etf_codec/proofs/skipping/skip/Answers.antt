@@ -1,11 +1,11 @@
 use Rattle.std.proofs.Common.{◌≡◌, ℕ, List, Result, Ok, Err, ap, sym, ◌∙◌, subst, arith}
 use Rattle.std.specs.Result.{IsErrAnd}
-use Rattle.etf_codec.specs.declared.fault.EtfFault.{EtfFault}
-use Rattle.etf_codec.specs.Format.{Place}
-use Rattle.etf_codec.specs.Answers.{IsFront}
-use Rattle.etf_codec.specs.Skipping.{skipped, SkipsBy}
+use Rattle.etf_model.specs.declared.fault.EtfFault.{EtfFault}
+use Rattle.etf_model.specs.Format.{Place}
+use Rattle.etf_model.specs.Answers.{IsFront}
+use Rattle.etf_model.specs.Skipping.{skipped, SkipsBy}
+use Rattle.etf_model.specs.SkippingExact.{skipped-exact, skipped_needs_no_memory}
 use Rattle.etf_codec.proofs.Answering.{front_read, fault_read}
-use Rattle.etf_codec.proofs.SkippingExact.{skipped-exact, skipped_needs_no_memory}
 use Rattle.etf_codec.proofs.skipping.skip.Goals as goal
 
 refused : (bytes : List ℕ) (fault : EtfFault) → skipped.read 0 (record { offset = 0; left = bytes }) ≡ Err fault → SkipsBy bytes (Err fault)

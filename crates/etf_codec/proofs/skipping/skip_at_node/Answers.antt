@@ -1,4 +1,4 @@
-use Rattle.etf_codec.specs.Skipping.{node, gap}
+use Rattle.etf_model.specs.Skipping.{node, gap}
 use Rattle.etf_codec.proofs.Reading.{reads_behind, reads_first_fault}
 use Rattle.etf_codec.proofs.skipping.skip_at_node.Goals as goal
 

@@ -1,11 +1,11 @@
 use Rattle.std.proofs.Common.{ℕ, ◌≡◌, ◌≢◌, ◌∙◌, true, false, refl, arith, ◌||◌, ◌==◌, Result, Ok, Err, ap, sym, subst}
 use Rattle.std.proofs.lemmas.Bool.Decides.{nat_tests}
-use Rattle.etf_codec.specs.declared.fault.EtfFault.{EtfFault}
-use Rattle.etf_codec.specs.declared.fault.EtfFault.TheVariants.{Unsupported}
-use Rattle.etf_codec.specs.Format.{Format, Place, byte, followed, either}
-use Rattle.etf_codec.specs.Spelling.{tag_of}
+use Rattle.etf_model.specs.declared.fault.EtfFault.{EtfFault}
+use Rattle.etf_model.specs.declared.fault.EtfFault.TheVariants.{Unsupported}
+use Rattle.etf_model.specs.Format.{Format, Place, byte, followed, either}
+use Rattle.etf_model.specs.Spelling.{tag_of}
+use Rattle.etf_model.specs.Skipping.{begins_node, sized_gap, node}
 use Rattle.etf_codec.specs.Reads.{Reads}
-use Rattle.etf_codec.specs.Skipping.{begins_node, sized_gap, node}
 use Rattle.etf_codec.proofs.Reading.{reads_fault, reads_framed, reads_tagged, tag_refused, no_tag}
 use Rattle.etf_codec.proofs.skipping.skip_node.Goals as goal
 

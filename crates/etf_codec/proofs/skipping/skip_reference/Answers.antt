@@ -1,7 +1,7 @@
 use Rattle.std.proofs.Common.{◌+◌, ◌*◌, subst}
-use Rattle.etf_codec.specs.Spelling.{number}
+use Rattle.etf_model.specs.Spelling.{number}
+use Rattle.etf_model.specs.Skipping.{at_node}
 use Rattle.etf_codec.specs.Reads.{Reads}
-use Rattle.etf_codec.specs.Skipping.{at_node}
 use Rattle.etf_codec.proofs.Reading.{reads_behind, reads_first_fault}
 use Rattle.etf_codec.proofs.skipping.skip_reference.Goals as goal
 

@@ -1,7 +1,7 @@
 use Rattle.std.proofs.Common.{suc, ◌∙◌}
-use Rattle.etf_codec.specs.Layout.{integers}
+use Rattle.etf_model.specs.Layout.{integers}
+use Rattle.etf_model.specs.Spelling.{string}
 use Rattle.etf_codec.proofs.Built.{IfOk-shallow, depth-integers_levels}
-use Rattle.etf_codec.specs.Spelling.{string}
 use Rattle.etf_codec.proofs.Bytes.{go_on_ok, go_on_err}
 use Rattle.etf_codec.proofs.Within.{within_fault, within_made}
 use Rattle.etf_codec.proofs.strings.read_string.Goals as goal

@@ -1,6 +1,6 @@
 use Rattle.std.proofs.Common.{◌≡◌, length}
 use Rattle.std.specs.Prelude.{reverse}
-use Rattle.etf_codec.specs.Format.{Place}
+use Rattle.etf_model.specs.Format.{Place}
 use Rattle.etf_codec.specs.Machine.{resume}
 use Rattle.etf_codec.specs.Begun.{MayCome}
 use Rattle.etf_codec.specs.TermReader.{IsNest}

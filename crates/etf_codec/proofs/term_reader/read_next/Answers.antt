@@ -1,8 +1,8 @@
 use Rattle.std.proofs.Common.{◌-◌, subst, refl, ap, length, Ok, Err, arith}
 use mathlib.Core.Logic.{inr}
-use Rattle.etf_codec.specs.Format.{Place}
+use Rattle.etf_model.specs.Format.{Place}
+use Rattle.etf_model.specs.Spelling.{body_of}
 use Rattle.etf_codec.specs.Heads.{HeadReads}
-use Rattle.etf_codec.specs.ReadTerms.{body_of}
 use Rattle.etf_codec.specs.Tags.{TagReads}
 use Rattle.etf_codec.proofs.NextParts.{no_tag_here, head_here, no_head_here, shorter_here, next_fault}
 use Rattle.etf_codec.proofs.term_reader.read_next.Goals as goal

@@ -1,6 +1,6 @@
 use Rattle.std.proofs.Common.{◌≡◌, ◌==◌, ◌∙◌, false, Err, ap, sym, arith}
 use Rattle.std.proofs.lemmas.Bool.Decides.{nat_tests}
-use Rattle.etf_codec.specs.declared.fault.EtfFault.TheVariants.{Short, NotVersion}
+use Rattle.etf_model.specs.declared.fault.EtfFault.TheVariants.{Short, NotVersion}
 use Rattle.etf_codec.proofs.Bytes.{go_on_err, test_fails}
 use Rattle.etf_codec.proofs.ReaderSteps.{version_there, version_missing}
 use Rattle.etf_codec.proofs.term_reader.read_version.Goals as goal

@@ -2,7 +2,7 @@ use Rattle.std.proofs.Common.{◌≡◌, ℕ, ◌^◌, false, List, length, Ok, 
 use Rattle.std.proofs.lemmas.Result.{err_from_is_err_and}
 use Rattle.term_text.specs.FeedState.{FeedState, total}
 use Rattle.term_text.specs.Script.{Answers}
-use Rattle.etf_codec.specs.declared.fed.Fed.TheVariants.{Again}
+use Rattle.etf_model.specs.declared.fed.Fed.TheVariants.{Again}
 use Rattle.term_text.proofs.Existence.{nothing_fed}
 use Rattle.dets_machine.specs.MachineValue.{MachineValue}
 use Rattle.dets_tool.specs.FeedValue.{FeedValue, Pulled, GivesPiece}

@@ -1,7 +1,7 @@
 use Rattle.std.proofs.Common.{◌≡◌, ◌+◌, ◌*◌, ◌^◌, ◌<◌, ◌≤◌, subst, sym, ◌∙◌, ap, arith}
+use Rattle.etf_model.specs.Layout.{limit}
+use Rattle.etf_model.specs.declared.fault.EtfFault.TheVariants.{IntegerRange}
 use Rattle.etf_codec.specs.BigIntegers.{IntegerReads}
-use Rattle.etf_codec.specs.Layout.{limit}
-use Rattle.etf_codec.specs.declared.fault.EtfFault.TheVariants.{IntegerRange}
 use Rattle.etf_codec.proofs.IntegerSteps.{integer_short, integer_passes, integer_grows}
 use Rattle.etf_codec.proofs.Within.{ok_or_none, ok_or_some}
 use Rattle.etf_codec.proofs.big_integer.BigInteger.read.Goals as goal

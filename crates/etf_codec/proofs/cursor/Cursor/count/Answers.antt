@@ -1,5 +1,5 @@
 use Rattle.std.proofs.Common.{◌-◌, ◌∙◌, ap, arith, false}
-use Rattle.etf_codec.specs.Spelling.{number, count, count_after}
+use Rattle.etf_model.specs.Spelling.{number, count, count_after}
 use Rattle.etf_codec.proofs.Counts.{count_number, count_more, count_deep, count_fails}
 use Rattle.etf_codec.proofs.Reading.{reads_fault}
 use Rattle.etf_codec.proofs.Within.{reads_alike}

@@ -1,5 +1,5 @@
 use Rattle.std.proofs.Common.{◌≡◌, ◌-◌, false}
-use Rattle.etf_codec.specs.Spelling.{count, count_after}
+use Rattle.etf_model.specs.Spelling.{count, count_after}
 use Rattle.etf_codec.proofs.cursor.Cursor.count.Given as goal
 
 -- all bytes so far are 0

@@ -1,5 +1,5 @@
 use Rattle.std.proofs.Common.{◌+◌, ◌*◌, ◌-◌, arith, ap, sym, ◌∙◌}
-use Rattle.etf_codec.specs.Spelling.{number, number_after}
+use Rattle.etf_model.specs.Spelling.{number, number_after}
 use Rattle.etf_codec.proofs.Bytes.{pow_256_le, pow_256_more, number_more, number_fails}
 use Rattle.etf_codec.proofs.Reading.{reads_fault}
 use Rattle.etf_codec.proofs.cursor.Cursor.number.Goals as goal

@@ -1,5 +1,5 @@
 use Rattle.std.proofs.Common.{◌≡◌, ℕ, ◌<◌, ◌^◌, ◌-◌}
-use Rattle.etf_codec.specs.Spelling.{number, number_after}
+use Rattle.etf_model.specs.Spelling.{number, number_after}
 use Rattle.etf_codec.proofs.cursor.Cursor.number.Given as goal
 
 -- what is left to read goes on from the value so far

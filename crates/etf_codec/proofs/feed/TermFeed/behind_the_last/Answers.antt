@@ -1,6 +1,6 @@
 use Rattle.std.proofs.Common.{◌≡◌, ◌≢◌, ◌==◌, Bool, ℕ, ◌<◌, ◌≤◌, List, [], length, true, false, refl, ap, sym, ◌∙◌, subst, arith}
+use Rattle.etf_model.specs.FeedState.{FeedState, longest}
 use Rattle.etf_codec.specs.declared.feed.TermFeed.TheInside.{Inside}
-use Rattle.etf_codec.specs.FeedState.{FeedState, longest}
 use Rattle.etf_codec.proofs.FeedSteps.{part_left, gives_long, gives_short}
 use Rattle.etf_codec.proofs.feed.TermFeed.behind_the_last.Goals as goal
 

@@ -1,7 +1,7 @@
 use Rattle.std.proofs.Common.{Err, ap, sym, ◌∙◌, subst}
-use Rattle.etf_codec.specs.FeedState.{FeedState, front_of, failed}
-use Rattle.etf_codec.specs.Spelling.{spelling, IsPart}
-use Rattle.etf_codec.specs.Answers.{Answers}
+use Rattle.etf_model.specs.FeedState.{FeedState, front_of, failed}
+use Rattle.etf_model.specs.Spelling.{spelling, IsPart}
+use Rattle.etf_model.specs.Answers.{Answers}
 use Rattle.etf_codec.proofs.FeedSteps.{gives_first, gives_broken}
 use Rattle.etf_codec.proofs.feed.TermFeed.next.Goals as goal
 

@@ -1,10 +1,10 @@
 use Rattle.std.proofs.Common.{ℕ, ◌+◌, ◌-◌, ◌≤◌, List, length, Ok, Err, refl, ap, sym, subst, arith, length-drop}
 use Rattle.std.proofs.lemmas.List.{length-take}
-use Rattle.etf_codec.specs.declared.fed.Fed.TheVariants.{Term}
-use Rattle.etf_codec.specs.FeedState.{FeedState, longest, front_of}
-use Rattle.etf_codec.specs.Next.{Gives}
-use Rattle.etf_codec.specs.Answers.{Answers}
-use Rattle.etf_codec.specs.Spelling.{spelling}
+use Rattle.etf_model.specs.declared.fed.Fed.TheVariants.{Term}
+use Rattle.etf_model.specs.FeedState.{FeedState, longest, front_of}
+use Rattle.etf_model.specs.Next.{Gives}
+use Rattle.etf_model.specs.Answers.{Answers}
+use Rattle.etf_model.specs.Spelling.{spelling}
 use Rattle.etf_codec.specs.TermReader.{IsFresh, ReaderReads}
 use Rattle.etf_codec.proofs.FeedSteps.{fresh_order, placed, term_between, term_front, fault_answers, short_order}
 use Rattle.etf_codec.proofs.feed.TermFeed.take_front.Goals as goal

@@ -6,7 +6,7 @@ use Rattle.std.proofs.Common.{Some, Ok, Err}
 use Rattle.term_text.specs.Machine.{first_state, stopped}
 use Rattle.term_text.specs.Reading.{is_stopped}
 use Rattle.term_text.specs.ReaderView.{reader_of}
-use Rattle.etf_codec.specs.declared.fed.Fed.TheVariants.{Again, End}
+use Rattle.etf_model.specs.declared.fed.Fed.TheVariants.{Again, End}
 use Rattle.term_text.specs.declared.feed.TextFault.TheVariants.{NotYet}
 use Rattle.term_text.specs.Next.{ends}
 use Rattle.term_text.specs.Script.{Answers}

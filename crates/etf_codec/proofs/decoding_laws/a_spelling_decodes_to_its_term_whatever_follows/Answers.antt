@@ -1,5 +1,0 @@
-use Rattle.etf_codec.proofs.OneDecoding.{decodes_to_its_term}
-use Rattle.etf_codec.proofs.decoding_laws.a_spelling_decodes_to_its_term_whatever_follows.Goals as goal
-
-pub returns : goal.returns
-returns c = decodes_to_its_term

@@ -1,5 +1,0 @@
-use Rattle.etf_codec.proofs.OneDecoding.{encoding_decodes}
-use Rattle.etf_codec.proofs.decoding_laws.an_encoding_decodes_to_its_term_whatever_follows.Goals as goal
-
-pub returns : goal.returns
-returns c = encoding_decodes

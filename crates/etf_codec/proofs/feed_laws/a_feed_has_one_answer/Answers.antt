@@ -1,5 +1,0 @@
-use Rattle.etf_codec.proofs.OneAnswer.{one_answer}
-use Rattle.etf_codec.proofs.feed_laws.a_feed_has_one_answer.Goals as goal
-
-pub returns : goal.returns
-returns c = one_answer

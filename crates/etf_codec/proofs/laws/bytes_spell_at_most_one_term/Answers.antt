@@ -1,8 +1,0 @@
-use Rattle.std.proofs.Common.{[], refl}
-use Rattle.etf_codec.specs.Spelling.{spelling}
-use Rattle.etf_codec.proofs.SpellingExact.{spelling-exact}
-use Rattle.etf_codec.proofs.Beginnings.{same_whole}
-use Rattle.etf_codec.proofs.laws.bytes_spell_at_most_one_term.Goals as goal
-
-pub returns : goal.returns
-returns c t u bytes v w = (same_whole spelling spelling-exact t u bytes [] bytes [] v w refl).0

@@ -1,0 +1,72 @@
+-- A property of formats that is kept where they are put together holds of what is passed over.
+use Rattle.std.proofs.Common.{ℕ, zero, suc, ◌+◌, ◌*◌, false, ◌||◌, ◌==◌}
+use Rattle.etf_model.specs.declared.fault.EtfFault.TheVariants.{Unsupported, Depth}
+use Rattle.etf_model.specs.Format.{Format, byte, followed, changed, either, times}
+use Rattle.etf_model.specs.Spelling.{number, tag_of}
+use Rattle.etf_model.specs.Skipping.{has_layout, begins_node, gap, sized_gap, node, at_node, reference, parts, counted, skip_body, skipped_at, skipped}
+use Rattle.etf_model.specs.Kept.{IsKept, changed-kept, either-kept, times-kept}
+use Rattle.etf_model.specs.SpellingKept.{tag_tells, depth_tells, number-kept, bytes-kept, tested_byte-kept}
+
+module _ (P : (A : Type 0) → Format A → Type 0) (kept : IsKept P) where
+  gap-kept : (n : ℕ) → P (Unit {0}) (gap n)
+  gap-kept n = changed-kept P kept (times n byte) (λ bytes. tt) (bytes-kept P kept n)
+
+  sized_gap-kept : (size extra : ℕ) → P (Unit {0}) (sized_gap size extra)
+  sized_gap-kept size extra = kept.of_followed (number size) (λ n. gap (n + extra)) (number-kept P kept size) (λ n front w. gap-kept (n + extra))
+
+  node-kept : P (Unit {0}) node
+  node-kept =
+      kept.of_framed (followed (tag_of begins_node (λ term x. Unsupported term x)) (λ tag. either (tag == 115 || tag == 119) (sized_gap 1 0) (sized_gap 2 0)))
+      (kept.of_followed (tag_of begins_node (λ term x. Unsupported term x)) (λ tag. either (tag == 115 || tag == 119) (sized_gap 1 0) (sized_gap 2 0))
+      (tested_byte-kept P kept begins_node (λ term x. Unsupported term x) tag_tells)
+      (λ tag front w. either-kept P kept (tag == 115 || tag == 119) (sized_gap 1 0) (sized_gap 2 0) (sized_gap-kept 1 0) (λ _. sized_gap-kept 2 0)))
+
+  at_node-kept : (n : ℕ) → P (Unit {0}) (at_node n)
+  at_node-kept n = kept.of_followed node (λ name. gap n) node-kept (λ name front w. gap-kept n)
+
+  reference-kept : (creation : ℕ) → P (Unit {0}) (reference creation)
+  reference-kept creation = kept.of_followed (number 2) (λ n. at_node (creation + 4 * n)) (number-kept P kept 2) (λ n front w. at_node-kept (creation + 4 * n))
+
+  module _ (part : Format (Unit {0})) (p : P (Unit {0}) part) where
+    counted-kept : (size each extra : ℕ) → P (Unit {0}) (counted part size each extra)
+    counted-kept size each extra =
+        kept.of_followed (number size) (λ n. parts part (each * n + extra)) (number-kept P kept size)
+        (λ n front w. changed-kept P kept (times (each * n + extra) part) (λ ts. tt) (times-kept P kept (each * n + extra) part (λ _. p)))
+
+    body-kept : (tag : ℕ) → P (Unit {0}) (skip_body part tag)
+    body-kept tag =
+        either-kept P kept (tag == 97) _ _ (gap-kept 1)
+        (λ _. either-kept P kept (tag == 98) _ _ (gap-kept 4)
+        (λ _. either-kept P kept (tag == 70) _ _ (gap-kept 8)
+        (λ _. either-kept P kept (tag == 110) _ _ (sized_gap-kept 1 1)
+        (λ _. either-kept P kept (tag == 111) _ _ (sized_gap-kept 4 1)
+        (λ _. either-kept P kept (tag == 100) _ _ (sized_gap-kept 2 0)
+        (λ _. either-kept P kept (tag == 115) _ _ (sized_gap-kept 1 0)
+        (λ _. either-kept P kept (tag == 118) _ _ (sized_gap-kept 2 0)
+        (λ _. either-kept P kept (tag == 119) _ _ (sized_gap-kept 1 0)
+        (λ _. either-kept P kept (tag == 107) _ _ (sized_gap-kept 2 0)
+        (λ _. either-kept P kept (tag == 109) _ _ (sized_gap-kept 4 0)
+        (λ _. either-kept P kept (tag == 77) _ _ (sized_gap-kept 4 1)
+        (λ _. either-kept P kept (tag == 104) _ _ (counted-kept 1 1 0)
+        (λ _. either-kept P kept (tag == 105) _ _ (counted-kept 4 1 0)
+        (λ _. either-kept P kept (tag == 108) _ _ (counted-kept 4 1 1)
+        (λ _. either-kept P kept (tag == 116) _ _ (counted-kept 4 2 0)
+        (λ _. either-kept P kept (tag == 103) _ _ (at_node-kept 9)
+        (λ _. either-kept P kept (tag == 88) _ _ (at_node-kept 12)
+        (λ _. either-kept P kept (tag == 102) _ _ (at_node-kept 5)
+        (λ _. either-kept P kept (tag == 89) _ _ (at_node-kept 8)
+        (λ _. either-kept P kept (tag == 120) _ _ (at_node-kept 12)
+        (λ _. either-kept P kept (tag == 114) _ _ (reference-kept 1)
+        (λ _. either-kept P kept (tag == 90) _ _ (reference-kept 4) (λ _. gap-kept 0)))))))))))))))))))))))
+
+  skipped_at-kept : (levels : ℕ) → P (Unit {0}) (skipped_at levels)
+  skipped_at-kept zero =
+      kept.of_framed (changed (tag_of (λ x. false) (λ term x. Depth term)) (λ x. tt))
+      (changed-kept P kept (tag_of (λ x. false) (λ term x. Depth term)) (λ x. tt) (tested_byte-kept P kept (λ x. false) (λ term x. Depth term) depth_tells))
+  skipped_at-kept (suc levels) =
+      kept.of_framed (followed (tag_of has_layout (λ term x. Unsupported term x)) (skip_body (skipped_at levels)))
+      (kept.of_followed (tag_of has_layout (λ term x. Unsupported term x)) (skip_body (skipped_at levels))
+      (tested_byte-kept P kept has_layout (λ term x. Unsupported term x) tag_tells) (λ tag front w. body-kept (skipped_at levels) (skipped_at-kept levels) tag))
+
+  pub skipped-kept : P (Unit {0}) skipped
+  skipped-kept = skipped_at-kept 256

@@ -1,0 +1,35 @@
+//! Laws of a feed of spellings, as contracts of functions that do nothing.
+ghost use Rattle.std.specs.Prelude.{◌≡◌, ◌≢◌, ℕ, Result, Err, true, List, [], ◌++◌};
+ghost use Rattle.dets_term.specs.TermValue.{TermValue};
+ghost use Rattle.etf_model.specs.FeedState.{FeedState};
+ghost use Rattle.etf_model.specs.History.{Call, empty_feed, IsHistory, fed_bytes, answered_terms, is_finished, EndsBy, StreamGives};
+ghost use Rattle.etf_model.specs.Next.{IsNext};
+ghost use Rattle.etf_model.specs.declared.fault.EtfFault.{EtfFault};
+ghost use Rattle.etf_model.specs.declared.fault.EtfFault.TheVariants.{Memory};
+ghost use Rattle.etf_model.specs.declared.fed.Fed.{Fed};
+
+/// A feed has one answer and one state behind it, want of memory aside.
+pub fn a_feed_has_one_answer()
+    ensures { (s a b : FeedState) (r q : Result Fed EtfFault) → IsNext s a r → IsNext s b q → r ≢ Err Memory → q ≢ Err Memory
+        → (r ≡ q) × (a ≡ b) }
+{}
+
+/// A stream gives one list of terms, and one answer behind them.
+pub fn a_stream_gives_one_list_of_terms()
+    ensures { (start : ℕ) (bytes : List ℕ) (ts us : List TermValue) (r q : Result Fed EtfFault)
+        → StreamGives start bytes ts r → StreamGives start bytes us q → (ts ≡ us) × (r ≡ q) }
+{}
+
+/// The terms of a stream do not depend on how it was cut: where a feed came to its last answer, its terms and this answer
+/// are what the stream gives. What was not fed by then may be any bytes, but none once the end of input was said. So two
+/// feeds of one stream have the same terms and the same last answer.
+pub fn the_terms_of_a_stream_do_not_depend_on_how_it_was_cut()
+    ensures given { (calls : List Call) (answer : Result Fed EtfFault) (rest : List ℕ) → IsHistory empty_feed calls
+        → EndsBy calls answer
+        → (is_finished calls ≡ true → rest ≡ []) → StreamGives 0 (fed_bytes calls ++ rest) (answered_terms calls) answer }
+    ensures same { (calls others : List Call) (answer other : Result Fed EtfFault) (rest more : List ℕ)
+        → IsHistory empty_feed calls → EndsBy calls answer → (is_finished calls ≡ true → rest ≡ [])
+        → IsHistory empty_feed others → EndsBy others other → (is_finished others ≡ true → more ≡ [])
+        → fed_bytes calls ++ rest ≡ fed_bytes others ++ more → (answered_terms calls ≡ answered_terms others)
+        × (answer ≡ other) }
+{}
