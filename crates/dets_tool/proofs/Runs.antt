@@ -4,7 +4,7 @@ use Rattle.std.proofs.lemmas.List.{take-append-drop}
 use Rattle.std.specs.Option.{option_map_or}
 use Rattle.dets_term.specs.TermValue.{TermValue}
 use Rattle.term_text.specs.Next.{IsNext}
-use Rattle.term_text.specs.Script.{Rest, blank, begun, faulty, Placed, IsScript, answer, Answers}
+use Rattle.term_text.specs.Script.{Rest, blank, may_go_on, faulty, Placed, IsScript, answer, Answers}
 use Rattle.etf_model.specs.declared.fed.Fed.TheVariants.{Again, End as EndOfText}
 use Rattle.term_text.specs.declared.feed.TextFault.TheVariants.{NotYet as NotYetText}
 use Rattle.term_text.proofs.Scripts.{script_behind, AreNext-script}
@@ -127,7 +127,7 @@ awaited left (inr a) = absurd (no_end a.rest a.given)
   where
     no_end : (r : Rest) → Ok EndOfText ≡ answer false r → ⊥
     no_end blank e = cc
-    no_end begun e = cc
+    no_end may_go_on e = cc
     no_end faulty e = cc
 
 -- and at its end that there is none
@@ -136,7 +136,7 @@ awaited_end left (inl a) = absurd (no_again a.rest a.given)
   where
     no_again : (r : Rest) → Ok Again ≡ answer true r → ⊥
     no_again blank e = cc
-    no_again begun e = cc
+    no_again may_go_on e = cc
     no_again faulty e = cc
 awaited_end left (inr a) = (a.rest, (a.script, blank_end a.rest a.given))
   where

@@ -5,12 +5,12 @@ use Rattle.std.specs.List.{AllByRecursion}
 use Rattle.dets_term.specs.TermValue.{TermValue, integer, atom, nil}
 use Rattle.term_text.specs.declared.nest.Bracket.{Bracket}
 use Rattle.term_text.specs.declared.nest.Bracket.TheVariants.{Tuple, List as Square}
-use Rattle.term_text.specs.Machine.{Place, want, opened, after, whole, stopped, Frame, NestState, bracketed, complete, may_close, Unfinished, no_token, in_name, in_minus, in_number, goes_on, settled, ReaderState, first_state, step, run}
+use Rattle.term_text.specs.Machine.{NestPlace, want, opened, after, whole, stopped, Frame, NestState, bracketed, complete, may_close, Unfinished, no_token, in_name, in_minus, in_number, goes_on, settled, ReaderState, fresh_state, step, run}
 use Rattle.term_text.specs.Token.{with_digit, IsSentence}
 use Rattle.term_text.specs.Reading.{is_stopped}
-use Rattle.term_text.specs.Good.{IsPart, GoodFrames, IsOutsideOrMore, GoodPlace, Good}
+use Rattle.term_text.specs.Valid.{IsPart, ValidFrames, IsOutsideOrMore, ValidPlace, IsValid}
 use Rattle.term_text.specs.Reaches.{Reaches}
-use Rattle.term_text.specs.Script.{IsFront}
+use Rattle.term_text.specs.Script.{IsFrontOfText}
 use Rattle.term_text.proofs.Forward.{between, amid, run_step, step_minus}
 use Rattle.term_text.proofs.Sentences.{run-append, stopped_nest}
 use Rattle.term_text.proofs.Backward.{IsGoingOn, sound}
@@ -40,10 +40,10 @@ abbrev closing_byte : Bracket → ℕ
 closing_byte Tuple = 125
 closing_byte Square = 93
 
-abbrev bracket_at : Bracket → List TermValue → List Frame → Place → NestState
+abbrev bracket_at : Bracket → List TermValue → List Frame → NestPlace → NestState
 bracket_at k ps fs place = record { frames = record { bracket = k; parts = ps } ∷ fs; place = place }
 
-step_closing : (k : Bracket) (ps : List TermValue) (fs : List Frame) (place : Place) → may_close place ≡ true → step (between (bracket_at k ps fs place)) (closing_byte k) ≡ Some (between (complete fs (bracketed k ps)))
+step_closing : (k : Bracket) (ps : List TermValue) (fs : List Frame) (place : NestPlace) → may_close place ≡ true → step (between (bracket_at k ps fs place)) (closing_byte k) ≡ Some (between (complete fs (bracketed k ps)))
 step_closing Tuple ps fs place m = rw m
 step_closing Square ps fs place m = rw m
 
@@ -63,7 +63,7 @@ complete_stops (f ∷ fs) t =
     (complete_stops fs (bracketed f.bracket (f.parts ++ t ∷ [])))
 
 -- where a term must begin there is room for one
-room : (fs : List Frame) → GoodFrames fs → IsOutsideOrMore fs → length fs < 256
+room : (fs : List Frame) → ValidFrames fs → IsOutsideOrMore fs → length fs < 256
 room [] g more = omega arith
 room (f ∷ fs) g more = has_room f.parts g.1 more
   where
@@ -74,7 +74,7 @@ room (f ∷ fs) g more = has_room f.parts g.1 more
 step_opening : (fs : List Frame) → length fs < 256 → step (between (record { frames = fs; place = want })) 91 ≡ Some (between (bracket_at Square [] fs opened))
 step_opening fs h = let l = lt-ltb (length fs) 256 h in rw l
 
-nest_stops : (fs : List Frame) (place : Place) → GoodFrames fs → GoodPlace fs place → is_stopped place ≡ false → CanStop (between (record { frames = fs; place = place }))
+nest_stops : (fs : List Frame) (place : NestPlace) → ValidFrames fs → ValidPlace fs place → is_stopped place ≡ false → CanStop (between (record { frames = fs; place = place }))
 nest_stops fs want g p e =
     by_byte (between (record { frames = fs; place = want })) (between (bracket_at Square [] fs opened)) 91 (step_opening fs (room fs g p))
     (by_byte (between (bracket_at Square [] fs opened)) (between (complete fs nil)) 93 (step_closing Square [] fs opened refl) (complete_stops fs nil))
@@ -117,7 +117,7 @@ token_stops s u (f ∷ fs) t going e h =
     (step_settled s (complete (f ∷ fs) t) u (closing_byte f.bracket) (ended_by u f.bracket e) h ∙ step_closing f.bracket (f.parts ++ t ∷ []) fs after refl)
     (complete_stops fs (bracketed f.bracket (f.parts ++ t ∷ [])))
 
-state_stops : (s : NestState) (u : Unfinished) → Good (amid s u) → is_stopped s.place ≡ false → CanStop (amid s u)
+state_stops : (s : NestState) (u : Unfinished) → IsValid (amid s u) → is_stopped s.place ≡ false → CanStop (amid s u)
 state_stops s no_token g e = nest_stops s.frames s.place g.nest.frames g.nest.place e
 state_stops s (in_name characters) g e =
     token_stops s (in_name characters) s.frames (atom characters) e (record { brace = refl; square = refl; dot = refl }) refl
@@ -128,18 +128,18 @@ state_stops s (in_number minus z) g e =
     token_stops s (in_number minus z) s.frames (integer z) e (record { brace = refl; square = refl; dot = refl }) refl
 
 -- bytes behind which no full stop stands yet are the front of a text
-pub front_of_text : (bytes : List ℕ) (n : ReaderState) (total : ℕ) → Reaches first_state 0 bytes n total → Good n → is_stopped n.nest.place ≡ false → total < 2 ^ 24 → IsFront bytes
+pub front_of_text : (bytes : List ℕ) (n : ReaderState) (total : ℕ) → Reaches fresh_state 0 bytes n total → IsValid n → is_stopped n.nest.place ≡ false → total < 2 ^ 24 → IsFrontOfText bytes
 front_of_text bytes n total r g e h =
     let c = state_stops n.nest n.token g e in
-    let led : run first_state (bytes ++ c.init) ≡ Some c.before =
-    run-append first_state bytes c.init ∙ ap (option_and_then (λ (m : ReaderState). run m c.init)) (Reaches-run first_state 0 bytes n total r) ∙ c.reached in
+    let led : run fresh_state (bytes ++ c.init) ≡ Some c.before =
+    run-append fresh_state bytes c.init ∙ ap (option_and_then (λ (m : ReaderState). run m c.init)) (Reaches-run fresh_state 0 bytes n total r) ∙ c.reached in
     record {
       term = c.term;
       more = c.init ++ 46 ∷ [];
       sentence =
           subst (λ (l : List ℕ). IsSentence c.term l []) (append_assoc bytes c.init (46 ∷ []))
           (sound (bytes ++ c.init) 46 c.before (between (stopped_nest c.term)) c.term led c.going c.stop refl);
-      within = omega (arith, h, total_counted first_state bytes n total r, text_length-append bytes (take 1 (c.init ++ 46 ∷ [])), length_one (c.init ++ 46 ∷ []));
+      within = omega (arith, h, total_counted fresh_state bytes n total r, text_length-append bytes (take 1 (c.init ++ 46 ∷ [])), length_one (c.init ++ 46 ∷ []));
     }
   where
     length_one : (xs : List ℕ) → length (take 1 xs) ≤ 1

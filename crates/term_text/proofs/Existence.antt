@@ -5,7 +5,7 @@ use Rattle.std.proofs.Math.Seq.{take-append_seam, drop-append_seam}
 use Rattle.dets_term.specs.TermValue.{TermValue}
 use Rattle.etf_model.specs.declared.fed.Fed.TheVariants.{Again}
 use Rattle.term_text.specs.Token.{IsSentence}
-use Rattle.term_text.specs.Machine.{ReaderState, first_state, step}
+use Rattle.term_text.specs.Machine.{ReaderState, fresh_state, step}
 use Rattle.term_text.specs.Reading.{is_stopped}
 use Rattle.term_text.specs.Reaches.{counted, IsInTime, Reaches, Fails, IsOrderly}
 use Rattle.term_text.specs.Next.{text_length, ends}
@@ -119,7 +119,7 @@ first_placed finished front rest t s h e others = (
   ),
 )
 
-script_of_course : (finished : Bool) (bytes : List ℕ) → ((rest : List ℕ) → length rest < length bytes → HasScript finished rest) → Course first_state 0 bytes → HasScript finished bytes
+script_of_course : (finished : Bool) (bytes : List ℕ) → ((rest : List ℕ) → length rest < length bytes → HasScript finished rest) → Course fresh_state 0 bytes → HasScript finished bytes
 script_of_course finished bytes shorter (inl h) = subst (λ (l : List ℕ). HasScript finished l) (sym h.whole) (by_end (ends finished h.rest) refl)
   where
     by_end : (o : Option Bool) → ends finished h.rest ≡ o → HasScript finished (h.front ++ h.rest)
@@ -135,13 +135,13 @@ script_of_course finished bytes shorter (inr (inr f)) = let a = failed finished 
 
 script_within : (n : ℕ) (finished : Bool) (bytes : List ℕ) → length bytes ≤ n → HasScript finished bytes
 script_within zero finished bytes h =
-    script_of_course finished bytes (λ rest less. absurd (omega (arith, h, less))) (course bytes first_state 0 (fresh_order first_state 0 refl refl))
+    script_of_course finished bytes (λ rest less. absurd (omega (arith, h, less))) (course bytes fresh_state 0 (fresh_order fresh_state 0 refl refl))
 script_within (suc n) finished bytes h =
-    script_of_course finished bytes (λ rest less. script_within n finished rest (omega (arith, h, less))) (course bytes first_state 0 (fresh_order first_state 0 refl refl))
+    script_of_course finished bytes (λ rest less. script_within n finished rest (omega (arith, h, less))) (course bytes fresh_state 0 (fresh_order fresh_state 0 refl refl))
 
 pub script_exists : (finished : Bool) (bytes : List ℕ) → HasScript finished bytes
 script_exists finished bytes = script_within (length bytes) finished bytes (omega arith)
 
 -- where nothing was fed, more is needed
 pub nothing_fed : Answers false [] (Ok Again)
-nothing_fed = more_needed [] first_state 0 (refl, refl) (fresh_order first_state 0 refl refl) refl
+nothing_fed = more_needed [] fresh_state 0 (refl, refl) (fresh_order fresh_state 0 refl refl) refl

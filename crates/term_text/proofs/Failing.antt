@@ -5,11 +5,11 @@ use Rattle.std.proofs.lemmas.List.{take-append-drop}
 use Rattle.dets_term.specs.TermValue.{TermValue}
 use Rattle.term_text.specs.declared.feed.TextFault.TheVariants.{NotYet}
 use Rattle.term_text.specs.Token.{is_white, each, IsSentence}
-use Rattle.term_text.specs.Machine.{ReaderState, first_state, step, run}
+use Rattle.term_text.specs.Machine.{ReaderState, fresh_state, step, run}
 use Rattle.term_text.specs.Reading.{is_stopped}
 use Rattle.term_text.specs.Reaches.{counted, Reaches, Fails}
 use Rattle.term_text.specs.Next.{text_length}
-use Rattle.term_text.specs.Script.{IsFront, faulty, HasNone, Answers}
+use Rattle.term_text.specs.Script.{IsFrontOfText, faulty, HasNone, Answers}
 use Rattle.term_text.proofs.Forward.{between, run_step}
 use Rattle.term_text.proofs.Sentences.{stopped_nest}
 use Rattle.term_text.proofs.Readings.{same_head}
@@ -59,23 +59,23 @@ goes_past (y ∷ front) (w ∷ text) x z rest s c m d stop r going f e p h =
     (sym (run_step s r.1.0 y text r.1.1) ∙ ap (λ v. run s (v ∷ text)) b.0 ∙ e) p b.1))
 
 -- a sentence in front of bytes that fail, and of what follows them, goes past the limit
-sentence_past : (bytes more text rest : List ℕ) (t : TermValue) (f : Fails first_state 0 bytes) → IsSentence t text [] → bytes ++ more ≡ text ++ rest → GoesPast text f.front f.byte f.total
+sentence_past : (bytes more text rest : List ℕ) (t : TermValue) (f : Fails fresh_state 0 bytes) → IsSentence t text [] → bytes ++ more ≡ text ++ rest → GoesPast text f.front f.byte f.total
 sentence_past bytes more text rest t f s h =
-    goes_past f.front text f.byte (f.rest ++ more) rest first_state 0 f.state f.total (between (stopped_nest t)) f.reached f.moving f.failed
+    goes_past f.front text f.byte (f.rest ++ more) rest fresh_state 0 f.state f.total (between (stopped_nest t)) f.reached f.moving f.failed
     (stop_reached t text s) refl
     (sym (append_assoc f.front (f.byte ∷ f.rest) more) ∙ ap (λ l. l ++ more) (sym f.whole) ∙ h)
 
 -- the byte that is refused is among the first 2^24
-limit_reached : (bytes : List ℕ) (f : Fails first_state 0 bytes) → 2 ^ 24 ≤ counted f.total f.byte → 2 ^ 24 ≤ text_length (f.front ++ f.byte ∷ [])
+limit_reached : (bytes : List ℕ) (f : Fails fresh_state 0 bytes) → 2 ^ 24 ≤ counted f.total f.byte → 2 ^ 24 ≤ text_length (f.front ++ f.byte ∷ [])
 limit_reached bytes f h =
-    subst (λ k. 2 ^ 24 ≤ k) (ap (λ k. counted k f.byte) (total_counted first_state f.front f.state f.total f.reached) ∙ counted-push f.front f.byte) h
+    subst (λ k. 2 ^ 24 ≤ k) (ap (λ k. counted k f.byte) (total_counted fresh_state f.front f.state f.total f.reached) ∙ counted-push f.front f.byte) h
 
 over_limit : (front : List ℕ) (x : ℕ) (q : List ℕ) → 2 ^ 24 ≤ text_length (front ++ x ∷ []) → 0 < length q → 2 ^ 24 < text_length (front ++ (x ∷ q))
 over_limit front x q h some =
     subst (λ (l : List ℕ). 2 ^ 24 < text_length l) (append_assoc front (x ∷ []) q)
     (omega (arith, h, some, text_length-more (front ++ x ∷ []) q (omega (arith, h))))
 
-failed_none : (finished : Bool) (bytes : List ℕ) → Fails first_state 0 bytes → HasNone finished bytes
+failed_none : (finished : Bool) (bytes : List ℕ) → Fails fresh_state 0 bytes → HasNone finished bytes
 failed_none finished bytes f = λ t taken next.
     let past = sentence_past bytes [] (take taken bytes) (drop taken bytes) t f next.sentence (append-nil bytes ∙ sym (take-append-drop taken bytes)) in
     let over = over_limit f.front f.byte past.0 (limit_reached bytes f past.3) past.2 in
@@ -86,7 +86,7 @@ some_next [] [] h = h
 some_next [] (x ∷ more) h = omega arith
 some_next (x ∷ tail) more h = omega arith
 
-failed_no_front : (bytes : List ℕ) → Fails first_state 0 bytes → IsFront bytes → ⊥
+failed_no_front : (bytes : List ℕ) → Fails fresh_state 0 bytes → IsFrontOfText bytes → ⊥
 failed_no_front bytes f ahead =
     let past = sentence_past bytes ahead.more (bytes ++ ahead.more) [] ahead.term f ahead.sentence (sym (append-nil (bytes ++ ahead.more))) in
     let whole : bytes ++ ahead.more ≡ f.front ++ (f.byte ∷ (f.rest ++ ahead.more)) = ap (λ l. l ++ ahead.more) f.whole ∙ append_assoc f.front (f.byte ∷ f.rest) ahead.more in
@@ -97,25 +97,25 @@ failed_no_front bytes f ahead =
     absurd (omega (arith, over, subst (λ (l : List ℕ). text_length l ≤ 2 ^ 24) there ahead.within))
 
 -- white space leads nowhere
-white_reaches : (xs : List ℕ) → each is_white xs ≡ true → Reaches first_state 0 xs first_state 0
+white_reaches : (xs : List ℕ) → each is_white xs ≡ true → Reaches fresh_state 0 xs fresh_state 0
 white_reaches [] e = (refl, refl)
 white_reaches (x ∷ xs) e =
     let p = and_parts (is_white x) (each is_white xs) e in
     let none : counted 0 x ≡ 0 = ap (λ b. cond b 0 1) p.0 in
-    let same : step first_state x ≡ Some first_state = rw (p.0) in (
+    let same : step fresh_state x ≡ Some fresh_state = rw (p.0) in (
       refl,
-      (first_state, same, inr (subst (λ k. k < 2 ^ 24) (sym none) (omega arith)), subst (λ (k : ℕ). Reaches first_state k xs first_state 0) (sym none) (white_reaches xs p.1)),
+      (fresh_state, same, inr (subst (λ k. k < 2 ^ 24) (sym none) (omega arith)), subst (λ (k : ℕ). Reaches fresh_state k xs fresh_state 0) (sym none) (white_reaches xs p.1)),
     )
 
-failed_dark : (bytes : List ℕ) → Fails first_state 0 bytes → each is_white bytes ≡ false
+failed_dark : (bytes : List ℕ) → Fails fresh_state 0 bytes → each is_white bytes ≡ false
 failed_dark bytes f =
     by_test (each is_white bytes) (λ b. b ≡ false)
     (λ white.
-    absurd (failed_no_front bytes f (front_of_text bytes first_state 0 (white_reaches bytes white)
+    absurd (failed_no_front bytes f (front_of_text bytes fresh_state 0 (white_reaches bytes white)
     (record { nest = record { frames = tt; place = tt }; token = tt }) refl (omega arith))))
     (λ _. refl)
 
-pub failed : (finished : Bool) (bytes : List ℕ) → Fails first_state 0 bytes → Answers finished bytes (Err NotYet)
+pub failed : (finished : Bool) (bytes : List ℕ) → Fails fresh_state 0 bytes → Answers finished bytes (Err NotYet)
 failed finished bytes f = record {
   rest = faulty;
   script = (failed_none finished bytes f, (failed_dark bytes f, failed_no_front bytes f));
@@ -123,7 +123,7 @@ failed finished bytes f = record {
 }
 
 -- bytes that fail behind others
-pub Fails-behind : (xs ys : List ℕ) (m : ReaderState) (d : ℕ) → Reaches first_state 0 xs m d → Fails m d ys → Fails first_state 0 (xs ++ ys)
+pub Fails-behind : (xs ys : List ℕ) (m : ReaderState) (d : ℕ) → Reaches fresh_state 0 xs m d → Fails m d ys → Fails fresh_state 0 (xs ++ ys)
 Fails-behind xs ys m d r f = record {
   front = xs ++ f.front;
   byte = f.byte;
@@ -131,7 +131,7 @@ Fails-behind xs ys m d r f = record {
   whole = ap (λ l. xs ++ l) f.whole ∙ sym (append_assoc xs f.front (f.byte ∷ f.rest));
   state = f.state;
   total = f.total;
-  reached = Reaches-append first_state 0 xs f.front m d f.state f.total r f.reached;
+  reached = Reaches-append fresh_state 0 xs f.front m d f.state f.total r f.reached;
   moving = f.moving;
   failed = f.failed;
 }

@@ -2,7 +2,7 @@
 use Rattle.std.proofs.Common.{◌≡◌, ℕ, true, false, List, [], ◌∷◌, ◌++◌}
 use Rattle.dets_term.specs.TermValue.{TermValue}
 use Rattle.term_text.specs.Token.{Token, opening, comma, full_stop, tokens_of, is_white, each, Decimal, Spells}
-use Rattle.term_text.specs.Machine.{Place, want, opened, after, whole, stopped, Frame, Unfinished, no_token, in_name, in_minus, in_number, ReaderState}
+use Rattle.term_text.specs.Machine.{NestPlace, want, opened, after, whole, stopped, Frame, Unfinished, no_token, in_name, in_minus, in_number, ReaderState}
 
 -- the tokens of some parts, with commas between them
 abbrev pub parts_after : List TermValue → List Token
@@ -29,7 +29,7 @@ open_tokens [] = []
 open_tokens (f ∷ fs) = (open_tokens fs ++ part_comma fs) ++ (opening f.bracket ∷ parts_tokens f.parts)
 
 -- the tokens that a nest has taken
-abbrev pub read_tokens : List Frame → Place → List Token
+abbrev pub read_tokens : List Frame → NestPlace → List Token
 read_tokens fs want = open_tokens fs ++ part_comma fs
 read_tokens fs opened = open_tokens fs
 read_tokens fs after = open_tokens fs

@@ -1,4 +1,4 @@
--- The tokens that a nest has taken, one by one, and that it stays good.
+-- The tokens that a nest has taken, one by one, and that it stays valid.
 use Rattle.std.proofs.Common.{◌≡◌, ℕ, ℤ, suc, ◌+◌, ◌<◌, ◌≤◌, Bool, true, false, cond, List, [], ◌∷◌, ◌++◌, length, Option, Some, None, nat_lt, refl, ap, ◌∙◌, sym, subst, append_assoc, arith}
 use Rattle.std.proofs.lemmas.List.{append-nil, length_push}
 use Rattle.std.proofs.lemmas.Option.{cond_some}
@@ -9,8 +9,8 @@ use Rattle.dets_term.specs.Parts.{deepest, parts_depth-chain, IsProper-chain}
 use Rattle.term_text.specs.declared.nest.Bracket.{Bracket}
 use Rattle.term_text.specs.declared.nest.Bracket.TheVariants.{Tuple, List as Square}
 use Rattle.term_text.specs.Token.{Token, opening, closing, comma, full_stop, name, number, tokens_of, tokens_of_elements, tokens_after, IsBuilt, fits}
-use Rattle.term_text.specs.Machine.{Place, want, opened, after, whole, stopped, Frame, NestState, bracketed, wants, may_begin, complete, same_bracket, may_close, close, after_comma, after_stop, take_token}
-use Rattle.term_text.specs.Good.{IsPart, GoodFrames, HasParts, GoodPlace, GoodNest}
+use Rattle.term_text.specs.Machine.{NestPlace, want, opened, after, whole, stopped, Frame, NestState, bracketed, wants, may_begin, complete, same_bracket, may_close, close, after_comma, after_stop, take_token}
+use Rattle.term_text.specs.Valid.{IsPart, ValidFrames, HasParts, ValidPlace, ValidNest}
 use Rattle.term_text.proofs.Forward.{IsWithin}
 use Rattle.term_text.proofs.HasRead.{parts_after, parts_tokens, comma_behind, part_comma, open_tokens, read_tokens}
 
@@ -48,7 +48,7 @@ parts_tokens-push (u ∷ ts) t =
     ap (λ l. tokens_of u ++ l) (parts_after-push ts t) ∙ sym (append_assoc (tokens_of u) (parts_after ts) (comma ∷ tokens_of t))
 
 -- the tokens in front of one more part, where one may begin
-read_tokens-wants : (fs : List Frame) (p : Place) → GoodPlace fs p → wants p ≡ true → read_tokens fs p ≡ open_tokens fs ++ part_comma fs
+read_tokens-wants : (fs : List Frame) (p : NestPlace) → ValidPlace fs p → wants p ≡ true → read_tokens fs p ≡ open_tokens fs ++ part_comma fs
 read_tokens-wants fs want g e = refl
 read_tokens-wants [] opened g e = absurd g
 read_tokens-wants (f ∷ fs) opened g e = sym (ap (λ ts. open_tokens (f ∷ fs) ++ comma_behind ts) g ∙ append-nil (open_tokens (f ∷ fs)))
@@ -65,7 +65,7 @@ read_tokens-complete (f ∷ fs) t =
     regroup : (a b c d : List Token) → a ++ (b ++ (c ++ d)) ≡ ((a ++ b) ++ c) ++ d
     regroup a b c d = simp append_assoc
 
-read_tokens-begun : (fs : List Frame) (p : Place) (t : TermValue) (token : Token) → GoodPlace fs p → wants p ≡ true → tokens_of t ≡ token ∷ [] → read_tokens (complete fs t).frames (complete fs t).place ≡ read_tokens fs p ++ token ∷ []
+read_tokens-begun : (fs : List Frame) (p : NestPlace) (t : TermValue) (token : Token) → ValidPlace fs p → wants p ≡ true → tokens_of t ≡ token ∷ [] → read_tokens (complete fs t).frames (complete fs t).place ≡ read_tokens fs p ++ token ∷ []
 read_tokens-begun fs p t token g w e =
     read_tokens-complete fs t ∙ ap (λ l. (open_tokens fs ++ part_comma fs) ++ l) e
     ∙ ap (λ l. l ++ token ∷ []) (sym (read_tokens-wants fs p g w))
@@ -76,7 +76,7 @@ same_bracket-true Tuple Square e = cc
 same_bracket-true Square Tuple e = cc
 same_bracket-true Square Square e = refl
 
-read_tokens-may_close : (fs : List Frame) (p : Place) → may_close p ≡ true → read_tokens fs p ≡ open_tokens fs
+read_tokens-may_close : (fs : List Frame) (p : NestPlace) → may_close p ≡ true → read_tokens fs p ≡ open_tokens fs
 read_tokens-may_close fs want e = cc
 read_tokens-may_close fs opened e = refl
 read_tokens-may_close fs after e = refl
@@ -95,7 +95,7 @@ open_tokens-close k (f ∷ fs) n e =
     ∙ ap (λ j. lead ++ (opening f.bracket ∷ (parts_tokens f.parts ++ closing j ∷ []))) (same_bracket-true f.bracket k h.0)
     ∙ sym (append_assoc lead (opening f.bracket ∷ parts_tokens f.parts) (closing k ∷ []))
 
-read_tokens-comma : (fs : List Frame) (p : Place) (n : NestState) → GoodPlace fs p → after_comma fs p ≡ Some n → read_tokens n.frames n.place ≡ read_tokens fs p ++ comma ∷ []
+read_tokens-comma : (fs : List Frame) (p : NestPlace) (n : NestState) → ValidPlace fs p → after_comma fs p ≡ Some n → read_tokens n.frames n.place ≡ read_tokens fs p ++ comma ∷ []
 read_tokens-comma fs want n g e = cc
 read_tokens-comma fs opened n g e = cc
 read_tokens-comma fs after n g e =
@@ -112,7 +112,7 @@ read_tokens-comma fs after n g e =
 read_tokens-comma fs (whole t) n g e = cc
 read_tokens-comma fs (stopped t) n g e = cc
 
-read_tokens-stop : (fs : List Frame) (p : Place) (n : NestState) → after_stop fs p ≡ Some n → read_tokens n.frames n.place ≡ read_tokens fs p ++ full_stop ∷ []
+read_tokens-stop : (fs : List Frame) (p : NestPlace) (n : NestState) → after_stop fs p ≡ Some n → read_tokens n.frames n.place ≡ read_tokens fs p ++ full_stop ∷ []
 read_tokens-stop fs want n e = cc
 read_tokens-stop fs opened n e = cc
 read_tokens-stop fs after n e = cc
@@ -124,7 +124,7 @@ wants-may_begin : (s : NestState) → may_begin s ≡ true → wants s.place ≡
 wants-may_begin s e = (and_parts (wants s.place) (nat_lt (length s.frames) 256) e).0
 
 -- a token that a nest takes is the one more that it has read
-pub read_tokens-take_token : (s n : NestState) (token : Token) → GoodPlace s.frames s.place → take_token s token ≡ Some n → read_tokens n.frames n.place ≡ read_tokens s.frames s.place ++ token ∷ []
+pub read_tokens-take_token : (s n : NestState) (token : Token) → ValidPlace s.frames s.place → take_token s token ≡ Some n → read_tokens n.frames n.place ≡ read_tokens s.frames s.place ++ token ∷ []
 read_tokens-take_token s n (opening k) g e =
     let h = cond_some (may_begin s) (record { frames = record { bracket = k; parts = [] } ∷ s.frames; place = opened }) n e in
     ap (λ (m : NestState). read_tokens m.frames m.place) (sym h.1)
@@ -144,7 +144,7 @@ read_tokens-take_token s n (number z) g e =
     ap (λ (m : NestState). read_tokens m.frames m.place) (sym h.1)
     ∙ read_tokens-begun s.frames s.place (integer z) (number z) g (wants-may_begin s h.0) refl
 
--- ---- a good nest stays good
+-- ---- a valid nest stays valid
 
 all_push : (levels : ℕ) (ts : List TermValue) (t : TermValue) → AllByRecursion (IsPart levels) ts → IsPart levels t → AllByRecursion (IsPart levels) (ts ++ t ∷ [])
 all_push levels [] t all part = (part, tt)
@@ -170,38 +170,38 @@ IsPart-bracketed Square levels ts h all = record {
   shallow = omega (arith, parts_depth-chain ts, deepest-parts (suc levels) ts h all);
 }
 
-pub GoodNest-complete : (fs : List Frame) (t : TermValue) → GoodFrames fs → IsPart (length fs) t → GoodNest (complete fs t)
-GoodNest-complete [] t g part = record { frames = tt; place = (refl, part) }
-GoodNest-complete (f ∷ fs) t g part = record {
+pub ValidNest-complete : (fs : List Frame) (t : TermValue) → ValidFrames fs → IsPart (length fs) t → ValidNest (complete fs t)
+ValidNest-complete [] t g part = record { frames = tt; place = (refl, part) }
+ValidNest-complete (f ∷ fs) t g part = record {
   frames = (g.0, all_push (length (f ∷ fs)) f.parts t g.1 part, g.2);
   place = omega (arith, length_push f.parts t);
 }
 
-GoodNest-close : (k : Bracket) (fs : List Frame) (n : NestState) → GoodFrames fs → close k fs ≡ Some n → GoodNest n
-GoodNest-close k [] n g e = cc
-GoodNest-close k (f ∷ fs) n g e =
+ValidNest-close : (k : Bracket) (fs : List Frame) (n : NestState) → ValidFrames fs → close k fs ≡ Some n → ValidNest n
+ValidNest-close k [] n g e = cc
+ValidNest-close k (f ∷ fs) n g e =
     let h = cond_some (same_bracket f.bracket k) (complete fs (bracketed f.bracket f.parts)) n e in
-    subst (λ (m : NestState). GoodNest m) h.1
-    (GoodNest-complete fs (bracketed f.bracket f.parts) g.2 (IsPart-bracketed f.bracket (length fs) f.parts g.0 g.1))
+    subst (λ (m : NestState). ValidNest m) h.1
+    (ValidNest-complete fs (bracketed f.bracket f.parts) g.2 (IsPart-bracketed f.bracket (length fs) f.parts g.0 g.1))
 
-GoodNest-comma : (fs : List Frame) (p : Place) (n : NestState) → GoodFrames fs → GoodPlace fs p → after_comma fs p ≡ Some n → GoodNest n
-GoodNest-comma fs want n g h e = cc
-GoodNest-comma fs opened n g h e = cc
-GoodNest-comma [] after n g h e = absurd h
-GoodNest-comma (f ∷ fs) after n g h e =
+ValidNest-comma : (fs : List Frame) (p : NestPlace) (n : NestState) → ValidFrames fs → ValidPlace fs p → after_comma fs p ≡ Some n → ValidNest n
+ValidNest-comma fs want n g h e = cc
+ValidNest-comma fs opened n g h e = cc
+ValidNest-comma [] after n g h e = absurd h
+ValidNest-comma (f ∷ fs) after n g h e =
     let same : record { frames = f ∷ fs; place = want } ≡ n = cc in
-    subst (λ (m : NestState). GoodNest m) same (record { frames = g; place = h })
-GoodNest-comma fs (whole t) n g h e = cc
-GoodNest-comma fs (stopped t) n g h e = cc
+    subst (λ (m : NestState). ValidNest m) same (record { frames = g; place = h })
+ValidNest-comma fs (whole t) n g h e = cc
+ValidNest-comma fs (stopped t) n g h e = cc
 
-GoodNest-stop : (fs : List Frame) (p : Place) (n : NestState) → GoodFrames fs → GoodPlace fs p → after_stop fs p ≡ Some n → GoodNest n
-GoodNest-stop fs want n g h e = cc
-GoodNest-stop fs opened n g h e = cc
-GoodNest-stop fs after n g h e = cc
-GoodNest-stop fs (whole t) n g h e =
+ValidNest-stop : (fs : List Frame) (p : NestPlace) (n : NestState) → ValidFrames fs → ValidPlace fs p → after_stop fs p ≡ Some n → ValidNest n
+ValidNest-stop fs want n g h e = cc
+ValidNest-stop fs opened n g h e = cc
+ValidNest-stop fs after n g h e = cc
+ValidNest-stop fs (whole t) n g h e =
     let same : record { frames = fs; place = stopped t } ≡ n = cc in
-    subst (λ (m : NestState). GoodNest m) same (record { frames = g; place = h })
-GoodNest-stop fs (stopped t) n g h e = cc
+    subst (λ (m : NestState). ValidNest m) same (record { frames = g; place = h })
+ValidNest-stop fs (stopped t) n g h e = cc
 
 open_brackets-may_begin : (s : NestState) → may_begin s ≡ true → length s.frames < 256
 open_brackets-may_begin s e =
@@ -214,19 +214,19 @@ IsPart-integer s z b f = record { built = f; shallow = omega (arith, open_bracke
 pub IsPart-atom : (s : NestState) (characters : List ℕ) → may_begin s ≡ true → length characters ≤ 255 → IsPart (length s.frames) (atom characters)
 IsPart-atom s characters b f = record { built = f; shallow = omega (arith, open_brackets-may_begin s b) }
 
-pub GoodNest-take_token : (s n : NestState) (token : Token) → GoodNest s → IsWithin token → take_token s token ≡ Some n → GoodNest n
-GoodNest-take_token s n (opening k) g w e =
+pub ValidNest-take_token : (s n : NestState) (token : Token) → ValidNest s → IsWithin token → take_token s token ≡ Some n → ValidNest n
+ValidNest-take_token s n (opening k) g w e =
     let h = cond_some (may_begin s) (record { frames = record { bracket = k; parts = [] } ∷ s.frames; place = opened }) n e in
-    subst (λ (m : NestState). GoodNest m) h.1
+    subst (λ (m : NestState). ValidNest m) h.1
     (record { frames = (omega (arith, open_brackets-may_begin s h.0), tt, g.frames); place = refl })
-GoodNest-take_token s n (closing k) g w e = GoodNest-close k s.frames n g.frames (if_some (may_close s.place) (close k s.frames) n e).1
-GoodNest-take_token s n comma g w e = GoodNest-comma s.frames s.place n g.frames g.place e
-GoodNest-take_token s n full_stop g w e = GoodNest-stop s.frames s.place n g.frames g.place e
-GoodNest-take_token s n (name characters) g w e =
+ValidNest-take_token s n (closing k) g w e = ValidNest-close k s.frames n g.frames (if_some (may_close s.place) (close k s.frames) n e).1
+ValidNest-take_token s n comma g w e = ValidNest-comma s.frames s.place n g.frames g.place e
+ValidNest-take_token s n full_stop g w e = ValidNest-stop s.frames s.place n g.frames g.place e
+ValidNest-take_token s n (name characters) g w e =
     let h = cond_some (may_begin s) (complete s.frames (atom characters)) n e in
-    subst (λ (m : NestState). GoodNest m) h.1
-    (GoodNest-complete s.frames (atom characters) g.frames (IsPart-atom s characters h.0 w))
-GoodNest-take_token s n (number z) g w e =
+    subst (λ (m : NestState). ValidNest m) h.1
+    (ValidNest-complete s.frames (atom characters) g.frames (IsPart-atom s characters h.0 w))
+ValidNest-take_token s n (number z) g w e =
     let h = cond_some (may_begin s) (complete s.frames (integer z)) n e in
-    subst (λ (m : NestState). GoodNest m) h.1
-    (GoodNest-complete s.frames (integer z) g.frames (IsPart-integer s z h.0 w))
+    subst (λ (m : NestState). ValidNest m) h.1
+    (ValidNest-complete s.frames (integer z) g.frames (IsPart-integer s z h.0 w))

@@ -7,10 +7,10 @@ use Rattle.std.proofs.lemmas.Bool.{and_parts, eqb-true}
 use Rattle.dets_term.specs.TermValue.{TermValue, integer, atom}
 use Rattle.term_text.specs.declared.nest.Bracket.{Bracket}
 use Rattle.term_text.specs.Token.{Token, opening, closing, comma, full_stop, name, number}
-use Rattle.term_text.specs.Machine.{Place, want, opened, after, whole, stopped, Frame, NestState, bracketed, complete, same_bracket, may_begin, may_close, close, after_comma, after_stop, take_token, Unfinished, no_token, in_name, in_minus, in_number, settled, single, begun_token, ReaderState, first_state, step}
+use Rattle.term_text.specs.Machine.{NestPlace, want, opened, after, whole, stopped, Frame, NestState, bracketed, complete, same_bracket, may_begin, may_close, close, after_comma, after_stop, take_token, Unfinished, no_token, in_name, in_minus, in_number, settled, single, begun_token, ReaderState, fresh_state, step}
 use Rattle.term_text.proofs.NestTokens.{if_some}
 use Rattle.term_text.proofs.Spelling.{single-spells}
-use Rattle.term_text.proofs.Backward.{by_step, by_begun, good_step}
+use Rattle.term_text.proofs.Backward.{by_step, by_begun, valid_step}
 use Rattle.term_text.specs.Reading.{is_stopped, HasFew}
 use Rattle.term_text.specs.Token.{is_white}
 use Rattle.term_text.specs.Reaches.{counted, IsInTime, Reaches, Fails, IsOrderly}
@@ -80,14 +80,14 @@ close-few c b (f ∷ fs) k h e =
     let q = cond_some (same_bracket f.bracket b) (complete fs (bracketed f.bracket f.parts)) k e in
     subst (λ (n : NestState). HasFew (c + 1) n.frames) q.1 (one-more c _ (complete-one c fs (bracketed f.bracket f.parts) h.1))
 
-after_comma-same : (fs : List Frame) (p : Place) (k : NestState) → after_comma fs p ≡ Some k → fs ≡ k.frames
+after_comma-same : (fs : List Frame) (p : NestPlace) (k : NestState) → after_comma fs p ≡ Some k → fs ≡ k.frames
 after_comma-same fs want k e = cc
 after_comma-same fs opened k e = cc
 after_comma-same fs after k e = let same : record { frames = fs; place = want } ≡ k = cc in ap (λ (n : NestState). n.frames) same
 after_comma-same fs (whole t) k e = cc
 after_comma-same fs (stopped t) k e = cc
 
-after_stop-same : (fs : List Frame) (p : Place) (k : NestState) → after_stop fs p ≡ Some k → fs ≡ k.frames
+after_stop-same : (fs : List Frame) (p : NestPlace) (k : NestState) → after_stop fs p ≡ Some k → fs ≡ k.frames
 after_stop-same fs want k e = cc
 after_stop-same fs opened k e = cc
 after_stop-same fs after k e = cc
@@ -115,9 +115,9 @@ few_step c s n x h e =
     (λ token k p d same. subst (λ (s : ReaderState). HasFew (c + 1) s.nest.frames) same (token-few c m k x token p one d))
     (λ u _ _ same. subst (λ (s : ReaderState). HasFew (c + 1) s.nest.frames) same (one-more c m.frames one)))
 
-white_first : (x : ℕ) (n : ReaderState) → is_white x ≡ true → step first_state x ≡ Some n → n ≡ first_state
+white_first : (x : ℕ) (n : ReaderState) → is_white x ≡ true → step fresh_state x ≡ Some n → n ≡ fresh_state
 white_first x n w e =
-    let same : step first_state x ≡ Some first_state = ap (λ b. cond b (Some first_state) (begun_token first_state.nest (single x) x)) w in
+    let same : step fresh_state x ≡ Some fresh_state = ap (λ b. cond b (Some fresh_state) (begun_token fresh_state.nest (single x) x)) w in
     cc
 
 -- a byte is counted, or it is white space in front of a term
@@ -130,18 +130,18 @@ by_count P c x f g = with_test ((c == 0) && is_white x) refl
 
 pub orderly_step : (s : ReaderState) (c x : ℕ) (n : ReaderState) → IsOrderly s c → is_stopped s.nest.place ≡ false → step s x ≡ Some n → IsInTime n (counted c x) → IsOrderly n (counted c x)
 orderly_step s c x n o moving e t = record {
-  good = good_step s n x o.good e;
+  valid = valid_step s n x o.valid e;
   few =
       by_count (λ k. HasFew k n.nest.frames) c x
       (λ z w. subst (λ (m : ReaderState). HasFew 0 m.nest.frames) (sym (at_first z w)) tt)
       (λ _. few_step c s n x o.few e);
   short = λ going. in_time going t;
-  fresh = by_count (λ k. k ≡ 0 → n ≡ first_state) c x (λ z w _. at_first z w) (λ _ zero. absurd (omega (arith, zero)));
+  fresh = by_count (λ k. k ≡ 0 → n ≡ fresh_state) c x (λ z w _. at_first z w) (λ _ zero. absurd (omega (arith, zero)));
 }
   where
     in_time : is_stopped n.nest.place ≡ false → IsInTime n (counted c x) → counted c x < 2 ^ 24
     in_time going (inl stops) = let clash : true ≡ false = sym stops ∙ going in cc
     in_time going (inr less) = less
 
-    at_first : c ≡ 0 → is_white x ≡ true → n ≡ first_state
+    at_first : c ≡ 0 → is_white x ≡ true → n ≡ fresh_state
     at_first z w = white_first x n w (subst (λ (m : ReaderState). step m x ≡ Some n) (o.fresh z) e)

@@ -4,7 +4,7 @@ use Rattle.std.proofs.lemmas.Bool.{cases_Bool, and_parts}
 use Rattle.std.proofs.lemmas.Option.{option_and_then_some}
 use Rattle.dets_term.specs.TermValue.{TermValue}
 use Rattle.term_text.specs.Token.{Token, opening, closing, comma, full_stop, name, number, is_white, IsSentence}
-use Rattle.term_text.specs.Machine.{stopped, NestState, wants, may_begin, take_token, Unfinished, no_token, in_name, in_minus, in_number, ReaderState, first_state, goes_on, extended, settled, first_byte, single, seated, begun_token, begun, step, run}
+use Rattle.term_text.specs.Machine.{stopped, NestState, wants, may_begin, take_token, Unfinished, no_token, in_name, in_minus, in_number, ReaderState, fresh_state, goes_on, extended, settled, first_byte, single, seated, begun_token, begun, step, run}
 use Rattle.term_text.proofs.Forward.{between, amid, run_step}
 use Rattle.term_text.proofs.Sentences.{run-append, reaches, stopped_nest}
 
@@ -105,9 +105,9 @@ held_behind_stop in_minus s t e h = let w : false ≡ true = ap wants (sym e) �
 held_behind_stop (in_number minus z) s t e h = let w : false ≡ true = ap wants (sym e) ∙ h in absurd (cc)
 
 -- what leads to a full stop goes through no state behind one
-pub not_stopped_before : (p q : List ℕ) (x : ReaderState) (t : TermValue) (n : ReaderState) → run first_state p ≡ Some x → x.nest.place ≡ stopped t → run x (q ++ 46 ∷ []) ≡ Some n → ⊥
+pub not_stopped_before : (p q : List ℕ) (x : ReaderState) (t : TermValue) (n : ReaderState) → run fresh_state p ≡ Some x → x.nest.place ≡ stopped t → run x (q ++ 46 ∷ []) ≡ Some n → ⊥
 not_stopped_before p q x t n r e f =
-    let idle : x.token ≡ no_token = held_behind_stop x.token x.nest t e (run_holds first_state x p tt r) in
+    let idle : x.token ≡ no_token = held_behind_stop x.token x.nest t e (run_holds fresh_state x p tt r) in
     no_stop_behind x.nest t q n e (ap (λ u. run (amid x.nest u) (q ++ 46 ∷ [])) (sym idle) ∙ f)
 
 -- ---- one reading
@@ -142,11 +142,11 @@ same_term t u e =
     cc
 
 -- a full stop that is reached is the last one on the way
-stop_is_first : (t : TermValue) (p q w : List ℕ) (n : ReaderState) → run first_state p ≡ Some (between (stopped_nest t)) → w ≡ p ++ (q ++ 46 ∷ []) → run first_state w ≡ Some n → ⊥
+stop_is_first : (t : TermValue) (p q w : List ℕ) (n : ReaderState) → run fresh_state p ≡ Some (between (stopped_nest t)) → w ≡ p ++ (q ++ 46 ∷ []) → run fresh_state w ≡ Some n → ⊥
 stop_is_first t p q w n r e f =
     no_stop_behind (stopped_nest t) t q n refl
     (sym (ap (option_and_then (λ (m : ReaderState). run m (q ++ 46 ∷ []))) r)
-    ∙ sym (run-append first_state p (q ++ 46 ∷ [])) ∙ ap (run first_state) (sym e) ∙ f)
+    ∙ sym (run-append fresh_state p (q ++ 46 ∷ [])) ∙ ap (run fresh_state) (sym e) ∙ f)
 
 -- bytes that begin with a sentence begin with one only, and it is the text of one term
 pub one_reading : (t u : TermValue) (bytes rest rest' : List ℕ) → IsSentence t bytes rest → IsSentence u bytes rest' → (t ≡ u) × (rest ≡ rest')
@@ -154,7 +154,7 @@ one_reading t u bytes rest rest' s s' =
     let a = reaches t bytes rest s in
     let b = reaches u bytes rest' s' in
     elim (fronts_of_one a.0 b.0 rest rest' (sym a.1 ∙ b.1)) [
-      | inl h ↦ (same_term t u (sym a.2 ∙ ap (λ i. run first_state (i ++ 46 ∷ [])) h.0 ∙ b.2), h.1)
+      | inl h ↦ (same_term t u (sym a.2 ∙ ap (λ i. run fresh_state (i ++ 46 ∷ [])) h.0 ∙ b.2), h.1)
       | inr (inl h) ↦ absurd (stop_is_first t (a.0 ++ 46 ∷ []) h.0 (b.0 ++ 46 ∷ []) (between (stopped_nest u)) a.2 h.1 b.2)
       | inr (inr h) ↦ absurd (stop_is_first u (b.0 ++ 46 ∷ []) h.0 (a.0 ++ 46 ∷ []) (between (stopped_nest t)) b.2 h.1 a.2)
     ]

@@ -3,7 +3,7 @@ use Rattle.std.proofs.Common.{◌≡◌, ℕ, true, false, not, ◌==◌, List, 
 use Rattle.std.proofs.lemmas.Bool.{and_parts}
 use Rattle.dets_term.specs.TermValue.{TermValue}
 use Rattle.term_text.specs.Token.{each, IsSentence}
-use Rattle.term_text.specs.Machine.{ReaderState, first_state, run}
+use Rattle.term_text.specs.Machine.{ReaderState, fresh_state, run}
 use Rattle.term_text.proofs.Sentences.{run-append, reaches}
 
 -- no full stop stands among these bytes
@@ -25,13 +25,13 @@ behind (z ∷ front) x more (y ∷ init) rest h e =
     (found.0, cc)
 
 -- a byte at which the machine has no step stands in no sentence before its full stop
-pub no_sentence : (front : List ℕ) (x : ℕ) (more : List ℕ) (t : TermValue) (rest : List ℕ) → HasNoStop front → run first_state (front ++ x ∷ []) ≡ None → IsSentence t (front ++ (x ∷ more)) rest → ⊥
+pub no_sentence : (front : List ℕ) (x : ℕ) (more : List ℕ) (t : TermValue) (rest : List ℕ) → HasNoStop front → run fresh_state (front ++ x ∷ []) ≡ None → IsSentence t (front ++ (x ∷ more)) rest → ⊥
 no_sentence front x more t rest plain fails s =
     let read = reaches t (front ++ (x ∷ more)) rest s in
     let found = behind front x more read.0 rest plain (read.1 ∙ append_assoc read.0 (46 ∷ []) rest) in
-    let none : run first_state (read.0 ++ 46 ∷ []) ≡ None =
-    ap (run first_state) (found.1 ∙ sym (append_assoc front (x ∷ []) found.0))
-    ∙ run-append first_state (front ++ x ∷ []) found.0
+    let none : run fresh_state (read.0 ++ 46 ∷ []) ≡ None =
+    ap (run fresh_state) (found.1 ∙ sym (append_assoc front (x ∷ []) found.0))
+    ∙ run-append fresh_state (front ++ x ∷ []) found.0
     ∙ ap (option_and_then (λ (m : ReaderState). run m found.0)) fails in
     cc
 

@@ -6,7 +6,7 @@ use Rattle.std.proofs.lemmas.Bool.{cases_lt}
 use Rattle.dets_term.specs.TermValue.{TermValue}
 use Rattle.term_text.specs.Token.{is_white, each, IsSentence}
 use Rattle.term_text.specs.Next.{text_length, ends, IsNext}
-use Rattle.term_text.specs.Script.{IsFront, Rest, blank, begun, faulty, IsRest, Placed, AreNext, IsScript, behind}
+use Rattle.term_text.specs.Script.{IsFrontOfText, Rest, blank, may_go_on, faulty, IsRest, Placed, AreNext, IsScript, behind}
 use Rattle.term_text.proofs.Readings.{one_reading}
 use Rattle.term_text.proofs.Soundness.{by_test}
 use Rattle.term_text.proofs.Rests.{next_sentence, each_front}
@@ -29,13 +29,13 @@ white_and_dark b e f = cc
 
 rest_one : (bytes : List ℕ) (r o : Rest) → IsRest r bytes → IsRest o bytes → r ≡ o
 rest_one bytes blank blank p q = refl
-rest_one bytes blank begun p q = absurd (white_and_dark (each is_white bytes) p q.0)
+rest_one bytes blank may_go_on p q = absurd (white_and_dark (each is_white bytes) p q.0)
 rest_one bytes blank faulty p q = absurd (white_and_dark (each is_white bytes) p q.0)
-rest_one bytes begun blank p q = absurd (white_and_dark (each is_white bytes) q p.0)
-rest_one bytes begun begun p q = refl
-rest_one bytes begun faulty p q = absurd (q.1 p.1)
+rest_one bytes may_go_on blank p q = absurd (white_and_dark (each is_white bytes) q p.0)
+rest_one bytes may_go_on may_go_on p q = refl
+rest_one bytes may_go_on faulty p q = absurd (q.1 p.1)
 rest_one bytes faulty blank p q = absurd (white_and_dark (each is_white bytes) q p.0)
-rest_one bytes faulty begun p q = absurd (p.1 q.1)
+rest_one bytes faulty may_go_on p q = absurd (p.1 q.1)
 rest_one bytes faulty faulty p q = refl
 
 pub one_script : (finished : Bool) (bytes : List ℕ) (ts us : List Placed) (r o : Rest) → IsScript finished bytes ts r → IsScript finished bytes us o → (ts ≡ us) × (r ≡ o)
@@ -99,7 +99,7 @@ next_of_all bytes [] rest = let same = ap (λ l. text_length (l ++ take 1 rest))
 next_of_all bytes (x ∷ more) rest =
     subst (λ (l : List ℕ). text_length (bytes ++ x ∷ []) ≤ text_length l) (regrouped bytes x more (take 1 rest)) (text_length-front (bytes ++ x ∷ []) (more ++ take 1 rest))
 
-front_of_front : (bytes more : List ℕ) → IsFront (bytes ++ more) → IsFront bytes
+front_of_front : (bytes more : List ℕ) → IsFrontOfText (bytes ++ more) → IsFrontOfText bytes
 front_of_front bytes more f = record {
   term = f.term;
   more = more ++ f.more;
@@ -108,14 +108,14 @@ front_of_front bytes more f = record {
 }
 
 -- the text of a term that goes past some bytes, or to their end, has them as a front
-text_has_front : (bytes more : List ℕ) (t : TermValue) → IsSentence t (bytes ++ more) [] → text_length (bytes ++ more) ≤ 2 ^ 24 → IsFront bytes
+text_has_front : (bytes more : List ℕ) (t : TermValue) → IsSentence t (bytes ++ more) [] → text_length (bytes ++ more) ≤ 2 ^ 24 → IsFrontOfText bytes
 text_has_front bytes more t s h = record { term = t; more = more; sentence = s; within = omega (arith, h, next_byte bytes more) }
 
 -- a term in front of more bytes stands in front of these, or they are a front of its text
-next_or_front : (finished : Bool) (bytes more : List ℕ) (t : TermValue) (taken : ℕ) → IsNext finished (bytes ++ more) t taken → IsNext false bytes t taken ⊎ IsFront bytes
+next_or_front : (finished : Bool) (bytes more : List ℕ) (t : TermValue) (taken : ℕ) → IsNext finished (bytes ++ more) t taken → IsNext false bytes t taken ⊎ IsFrontOfText bytes
 next_or_front finished bytes more t taken n = by_length (cases_lt (length bytes) taken)
   where
-    by_rest : (rest : List ℕ) → drop taken bytes ≡ rest → taken ≤ length bytes → take taken (bytes ++ more) ≡ take taken bytes → IsNext false bytes t taken ⊎ IsFront bytes
+    by_rest : (rest : List ℕ) → drop taken bytes ≡ rest → taken ≤ length bytes → take taken (bytes ++ more) ≡ take taken bytes → IsNext false bytes t taken ⊎ IsFrontOfText bytes
     by_rest [] e h same =
         let all : take taken (bytes ++ more) ≡ bytes ++ [] = same ∙ sym (append-nil (take taken bytes)) ∙ ap (λ l. take taken bytes ++ l) (sym e) ∙ take-append-drop taken bytes ∙ sym (append-nil bytes) in
         inr (text_has_front bytes [] t (subst (λ (l : List ℕ). IsSentence t l []) all n.sentence) (subst (λ (l : List ℕ). text_length l ≤ 2 ^ 24) all n.within))
@@ -126,7 +126,7 @@ next_or_front finished bytes more t taken n = by_length (cases_lt (length bytes)
       end = ap (ends false) e ∙ ap (ends finished) (ap (λ l. l ++ more) (sym e) ∙ sym (drop-append-le taken bytes more h)) ∙ n.end;
     })
 
-    by_length : (length bytes < taken) ⊎ (taken ≤ length bytes) → IsNext false bytes t taken ⊎ IsFront bytes
+    by_length : (length bytes < taken) ⊎ (taken ≤ length bytes) → IsNext false bytes t taken ⊎ IsFrontOfText bytes
     by_length (inr h) = by_rest (drop taken bytes) refl h (take-append-le taken bytes more h)
     by_length (inl h) =
         let past : take taken (bytes ++ more) ≡ bytes ++ take (taken - length bytes) more

@@ -3,7 +3,7 @@ use Rattle.std.proofs.Common.{◌≡◌, ℕ, ◌≤◌, ◌<◌, List, [], ◌�
 use Rattle.dets_term.specs.TermValue.{TermValue, integer, atom, tuple, mapping, nil, cons, bits, depth}
 use Rattle.term_text.specs.declared.nest.Bracket.TheVariants.{Tuple, List as Square}
 use Rattle.term_text.specs.Token.{Token, opening, closing, comma, full_stop, name, number, tokens_of, tokens_of_elements, tokens_after, IsBuilt, IsApart, Fronts, Spells, IsSentence}
-use Rattle.term_text.specs.Machine.{want, whole, stopped, NestState, take_tokens, no_token, ReaderState, first_state, step, run}
+use Rattle.term_text.specs.Machine.{want, whole, stopped, NestState, take_tokens, no_token, ReaderState, fresh_state, step, run}
 use Rattle.term_text.proofs.Forward.{between, AreWithin, run_fronts, run_tokens}
 use Rattle.term_text.proofs.Terms.{take_term}
 
@@ -92,7 +92,7 @@ whole_nest t = record { frames = []; place = whole t }
 abbrev pub stopped_nest : TermValue → NestState
 stopped_nest t = record { frames = []; place = stopped t }
 
-term_is_read : (t : TermValue) (bytes rest : List ℕ) → IsBuilt t → depth t ≤ 256 → Spells (tokens_of t) bytes rest → run first_state bytes ≡ run (between (whole_nest t)) rest
+term_is_read : (t : TermValue) (bytes rest : List ℕ) → IsBuilt t → depth t ≤ 256 → Spells (tokens_of t) bytes rest → run fresh_state bytes ≡ run (between (whole_nest t)) rest
 term_is_read t bytes rest b d e =
     let taken : take_tokens (record { frames = []; place = want }) (tokens_of t) ≡ Some (whole_nest t)
     = ap (take_tokens (record { frames = []; place = want })) (sym (append-nil (tokens_of t))) ∙ take_term t [] want [] refl b (omega arith) in
@@ -107,7 +107,7 @@ stop_text bytes rest f =
     f.whole ∙ ap (λ b. f.blanks ++ (b ++ rest)) f.spelled ∙ sym (append_assoc f.blanks (46 ∷ []) rest)
 
 -- the machine reads a sentence, up to its full stop
-pub reaches : (t : TermValue) (bytes rest : List ℕ) → IsSentence t bytes rest → (init : List ℕ) × (bytes ≡ (init ++ 46 ∷ []) ++ rest) × (run first_state (init ++ 46 ∷ []) ≡ Some (record { nest = record { frames = []; place = stopped t }; token = no_token }))
+pub reaches : (t : TermValue) (bytes rest : List ℕ) → IsSentence t bytes rest → (init : List ℕ) × (bytes ≡ (init ++ 46 ∷ []) ++ rest) × (run fresh_state (init ++ 46 ∷ []) ≡ Some (record { nest = record { frames = []; place = stopped t }; token = no_token }))
 reaches t bytes rest s =
     let parts = Spells_parts (tokens_of t) (full_stop ∷ []) bytes rest s.text in
     let stop : Fronts full_stop parts.0 rest = subst (λ r. Fronts full_stop parts.0 r) parts.2.2 parts.2.1 in
@@ -115,7 +115,7 @@ reaches t bytes rest s =
     let front = Spells_front (tokens_of t) bytes end rest (omega (arith, length-append stop.blanks (46 ∷ []))) (subst (λ m. Spells (tokens_of t) bytes m) (stop_text parts.0 rest stop) parts.1) in (
       front.0 ++ stop.blanks,
       front.1 ∙ sym (append_assoc front.0 end rest) ∙ ap (λ a. a ++ rest) (sym (append_assoc front.0 stop.blanks (46 ∷ []))),
-      ap (run first_state) (append_assoc front.0 stop.blanks (46 ∷ []))
+      ap (run fresh_state) (append_assoc front.0 stop.blanks (46 ∷ []))
           ∙ term_is_read t (front.0 ++ end) end s.built s.shallow front.2
           ∙ stop_is_read t end [] (record { blanks = stop.blanks; spelling = 46 ∷ []; blank = stop.blank; spelled = refl; apart = tt; whole = refl }),
     )

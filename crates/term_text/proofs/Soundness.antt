@@ -2,14 +2,14 @@
 use Rattle.std.proofs.Common.{◌≡◌, ℕ, suc, ◌+◌, ◌<◌, ◌≤◌, ◌^◌, Bool, true, false, cond, ◌&&◌, ◌==◌, List, [], ◌∷◌, ◌++◌, length, inl, inr, refl, ap, ◌∙◌, sym, subst, append_assoc, arith}
 use Rattle.dets_term.specs.TermValue.{TermValue}
 use Rattle.term_text.specs.Token.{is_white, each, IsSentence}
-use Rattle.term_text.specs.Machine.{want, stopped, no_token, ReaderState, first_state}
+use Rattle.term_text.specs.Machine.{want, stopped, no_token, ReaderState, fresh_state}
 use Rattle.term_text.specs.Reading.{is_stopped}
-use Rattle.term_text.specs.Good.{Good}
+use Rattle.term_text.specs.Valid.{IsValid}
 use Rattle.term_text.specs.Reaches.{counted, IsInTime, Reaches}
 use Rattle.term_text.specs.Next.{text_length}
 use Rattle.term_text.proofs.HasRead.{HasRead}
 use Rattle.term_text.proofs.Reaching.{by_count}
-use Rattle.term_text.proofs.Backward.{IsGoingOn, good_step, reads_step, stop_step}
+use Rattle.term_text.proofs.Backward.{IsGoingOn, valid_step, reads_step, stop_step}
 
 -- two parts of the bytes, one behind the other
 pub Reaches-append : (s : ReaderState) (c : ℕ) (xs ys : List ℕ) (m : ReaderState) (d : ℕ) (n : ReaderState) (e : ℕ) → Reaches s c xs m d → Reaches m d ys n e → Reaches s c (xs ++ ys) n e
@@ -37,7 +37,7 @@ in_time : (s : ReaderState) (c : ℕ) → is_stopped s.nest.place ≡ false → 
 in_time s c going (inl stops) = let clash : true ≡ false = sym stops ∙ going in cc
 in_time s c going (inr less) = less
 
-whole_on : (xs before : List ℕ) (s : ReaderState) (c : ℕ) (x : ℕ) (n : ReaderState) (d : ℕ) (t : TermValue) → Good s → HasRead s before → c < 2 ^ 24 → Reaches s c (x ∷ xs) n d → n.nest.place ≡ stopped t → IsWhole t (before ++ (x ∷ xs)) n d
+whole_on : (xs before : List ℕ) (s : ReaderState) (c : ℕ) (x : ℕ) (n : ReaderState) (d : ℕ) (t : TermValue) → IsValid s → HasRead s before → c < 2 ^ 24 → Reaches s c (x ∷ xs) n d → n.nest.place ≡ stopped t → IsWhole t (before ++ (x ∷ xs)) n d
 whole_on [] before s c x n d t g h short r p =
     let m = r.1.0 in
     let place : m.nest.place ≡ stopped t = ap (λ (k : ReaderState). k.nest.place) (sym r.1.3.0) ∙ p in
@@ -50,14 +50,14 @@ whole_on [] before s c x n d t g h short r p =
 whole_on (y ∷ ys) before s c x n d t g h short r p =
     let m = r.1.0 in
     subst (λ (bytes : List ℕ). IsWhole t bytes n d) (append_assoc before (x ∷ []) (y ∷ ys))
-    (whole_on ys (before ++ x ∷ []) m (counted c x) y n d t (good_step s m x g r.1.1) (reads_step s m x before g h r.1.1)
+    (whole_on ys (before ++ x ∷ []) m (counted c x) y n d t (valid_step s m x g r.1.1) (reads_step s m x before g h r.1.1)
     (in_time m (counted c x) r.1.3.0 r.1.2) r.1.3 p)
 
 -- what leads to a full stop is the text of the term in front of it
-pub whole_read : (bytes : List ℕ) (n : ReaderState) (total : ℕ) (t : TermValue) → Reaches first_state 0 bytes n total → n.nest.place ≡ stopped t → IsWhole t bytes n total
+pub whole_read : (bytes : List ℕ) (n : ReaderState) (total : ℕ) (t : TermValue) → Reaches fresh_state 0 bytes n total → n.nest.place ≡ stopped t → IsWhole t bytes n total
 whole_read [] n total t r p = let clash : want ≡ stopped t = ap (λ (k : ReaderState). k.nest.place) (sym r.0) ∙ p in cc
 whole_read (x ∷ xs) n total t r p =
-    whole_on xs [] first_state 0 x n total t
+    whole_on xs [] fresh_state 0 x n total t
     (record { nest = record { frames = tt; place = tt }; token = tt })
     (record { blanks = []; begun = []; blank = refl; token = refl; text = refl }) (omega arith) r p
 

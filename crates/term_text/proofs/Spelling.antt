@@ -10,7 +10,7 @@ use Rattle.term_text.specs.declared.nest.Bracket.TheVariants.{Tuple, List as Squ
 use Rattle.term_text.specs.Printed.{is_name_character, is_plain_atom}
 use Rattle.term_text.specs.Token.{Token, opening, closing, comma, full_stop, name, number, fits, is_white, each, with_digit, value_after, Decimal, Spelled, IsApart, Fronts, Spells}
 use Rattle.term_text.specs.Machine.{NestState, may_begin, Unfinished, no_token, in_name, in_minus, in_number, goes_on, extended, first_byte, single}
-use Rattle.term_text.specs.Good.{GoodToken}
+use Rattle.term_text.specs.Valid.{ValidToken}
 use Rattle.term_text.proofs.HasRead.{TokenBytes}
 
 -- ---- tokens in front of more bytes
@@ -95,19 +95,19 @@ fits-digit : (minus : Bool) (x : ℕ) → is_ascii_digit x ≡ true → fits (wi
 fits-digit true x e = agree_below_at (λ d. fits (with_digit true (pos 0) d)) (λ d. true) 58 x refl (digit_below x e)
 fits-digit false x e = agree_below_at (λ d. fits (with_digit false (pos 0) d)) (λ d. true) 58 x refl (digit_below x e)
 
--- a good token with one more byte is good
-pub GoodToken-extended : (nest : NestState) (token u : Unfinished) (x : ℕ) → GoodToken nest token → goes_on token x ≡ true → extended token x ≡ Some u → GoodToken nest u
-GoodToken-extended nest no_token u x g h e = cc
-GoodToken-extended nest (in_name characters) u x g h e =
+-- a valid token with one more byte is valid
+pub ValidToken-extended : (nest : NestState) (token u : Unfinished) (x : ℕ) → ValidToken nest token → goes_on token x ≡ true → extended token x ≡ Some u → ValidToken nest u
+ValidToken-extended nest no_token u x g h e = cc
+ValidToken-extended nest (in_name characters) u x g h e =
     let k = cond_some (nat_lt (length characters) 255) (in_name (characters ++ x ∷ [])) u e in
-    subst (λ (v : Unfinished). GoodToken nest v) k.1
+    subst (λ (v : Unfinished). ValidToken nest v) k.1
     (g.0, is_plain_atom-push characters x g.1 h, omega (arith, length_push characters x, ltb-true (length characters) 255 k.0))
-GoodToken-extended nest in_minus u x g h e =
+ValidToken-extended nest in_minus u x g h e =
     let same : in_number true (with_digit true (pos 0) x) ≡ u = cc in
-    subst (λ (v : Unfinished). GoodToken nest v) same (g, fits-digit true x h)
-GoodToken-extended nest (in_number minus z) u x g h e =
+    subst (λ (v : Unfinished). ValidToken nest v) same (g, fits-digit true x h)
+ValidToken-extended nest (in_number minus z) u x g h e =
     let k = cond_some (fits (with_digit minus z x)) (in_number minus (with_digit minus z x)) u e in
-    subst (λ (v : Unfinished). GoodToken nest v) k.1 (g.0, k.0)
+    subst (λ (v : Unfinished). ValidToken nest v) k.1 (g.0, k.0)
 
 -- its bytes are one more
 pub TokenBytes-extended : (token u : Unfinished) (begun : List ℕ) (x : ℕ) → TokenBytes token begun → goes_on token x ≡ true → extended token x ≡ Some u → TokenBytes u (begun ++ x ∷ [])
@@ -133,11 +133,11 @@ pub by_cond : {A P : Type 0} (b : Bool) (x y z : A) → cond b x y ≡ z → (b 
 by_cond true x y z e f g = f refl e
 by_cond false x y z e f g = g refl e
 
-begins_as : (nest : NestState) (x : ℕ) (t u : Unfinished) → GoodToken nest t × TokenBytes t (x ∷ []) → Some t ≡ Some u → GoodToken nest u × TokenBytes u (x ∷ [])
-begins_as nest x t u h e = let same : t ≡ u = cc in subst (λ (v : Unfinished). GoodToken nest v × TokenBytes v (x ∷ [])) same h
+begins_as : (nest : NestState) (x : ℕ) (t u : Unfinished) → ValidToken nest t × TokenBytes t (x ∷ []) → Some t ≡ Some u → ValidToken nest u × TokenBytes u (x ∷ [])
+begins_as nest x t u h e = let same : t ≡ u = cc in subst (λ (v : Unfinished). ValidToken nest v × TokenBytes v (x ∷ [])) same h
 
--- the token that a byte begins is good, and the byte is all of it
-pub first_byte-begins : (nest : NestState) (x : ℕ) (u : Unfinished) → may_begin nest ≡ true → first_byte x ≡ Some u → GoodToken nest u × TokenBytes u (x ∷ [])
+-- the token that a byte begins is valid, and the byte is all of it
+pub first_byte-begins : (nest : NestState) (x : ℕ) (u : Unfinished) → may_begin nest ≡ true → first_byte x ≡ Some u → ValidToken nest u × TokenBytes u (x ∷ [])
 first_byte-begins nest x u b e =
     by_cond (x == 45) _ _ _ e (λ m. begins_as nest x in_minus u (b, ap (λ y. y ∷ []) (eqb-true x 45 m)))
     (λ _ f. by_cond (is_ascii_digit x) _ _ _ f

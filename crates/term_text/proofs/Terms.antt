@@ -6,7 +6,7 @@ use Rattle.dets_term.specs.IsTerm.{IsProper}
 use Rattle.term_text.specs.declared.nest.Bracket.{Bracket}
 use Rattle.term_text.specs.declared.nest.Bracket.TheVariants.{Tuple, List as Square}
 use Rattle.term_text.specs.Token.{Token, opening, closing, name, number, tokens_of, tokens_of_elements, tokens_after, IsBuilt}
-use Rattle.term_text.specs.Machine.{Place, want, opened, after, Frame, NestState, bracketed, wants, may_begin, complete, same_bracket, take_token, take_tokens}
+use Rattle.term_text.specs.Machine.{NestPlace, want, opened, after, Frame, NestState, bracketed, wants, may_begin, complete, same_bracket, take_token, take_tokens}
 
 -- ---- proper lists
 
@@ -31,22 +31,22 @@ depth-first first rest = omega arith
 
 -- ---- brackets
 
-abbrev at_place : Bracket → List TermValue → List Frame → Place → NestState
+abbrev at_place : Bracket → List TermValue → List Frame → NestPlace → NestState
 at_place k ps fs place = record { frames = record { bracket = k; parts = ps } ∷ fs; place = place }
 
 same_bracket-self : (k : Bracket) → same_bracket k k ≡ true
 same_bracket-self Tuple = refl
 same_bracket-self Square = refl
 
-begins : (fs : List Frame) (place : Place) → wants place ≡ true → length fs < 256 → may_begin (record { frames = fs; place = place }) ≡ true
+begins : (fs : List Frame) (place : NestPlace) → wants place ≡ true → length fs < 256 → may_begin (record { frames = fs; place = place }) ≡ true
 begins fs place w h = let l = lt-ltb (length fs) 256 h in rw (w, l)
 
-take_opening : (k : Bracket) (fs : List Frame) (place : Place) (ts : List Token) → wants place ≡ true → length fs < 256 → take_tokens (record { frames = fs; place = place }) (opening k ∷ ts) ≡ take_tokens (at_place k [] fs opened) ts
+take_opening : (k : Bracket) (fs : List Frame) (place : NestPlace) (ts : List Token) → wants place ≡ true → length fs < 256 → take_tokens (record { frames = fs; place = place }) (opening k ∷ ts) ≡ take_tokens (at_place k [] fs opened) ts
 take_opening k fs place ts w h =
     let same : take_token (record { frames = fs; place = place }) (opening k) ≡ Some (at_place k [] fs opened) = rw (begins fs place w h) in
     ap (option_and_then (λ (n : NestState). take_tokens n ts)) same
 
-take_atomic : (token : Token) (t : TermValue) (fs : List Frame) (place : Place) (ts : List Token) → take_token (record { frames = fs; place = place }) token ≡ cond (may_begin (record { frames = fs; place = place })) (Some (complete fs t)) None → wants place ≡ true → length fs < 256 → take_tokens (record { frames = fs; place = place }) (token ∷ ts) ≡ take_tokens (complete fs t) ts
+take_atomic : (token : Token) (t : TermValue) (fs : List Frame) (place : NestPlace) (ts : List Token) → take_token (record { frames = fs; place = place }) token ≡ cond (may_begin (record { frames = fs; place = place })) (Some (complete fs t)) None → wants place ≡ true → length fs < 256 → take_tokens (record { frames = fs; place = place }) (token ∷ ts) ≡ take_tokens (complete fs t) ts
 take_atomic token t fs place ts e w h =
     let same : take_token (record { frames = fs; place = place }) token ≡ Some (complete fs t) = e ∙ ap (λ b. cond b (Some (complete fs t)) None) (begins fs place w h) in
     ap (option_and_then (λ (n : NestState). take_tokens n ts)) same
@@ -63,7 +63,7 @@ take_closing-none k fs ts =
 
 -- what is proved of a term, and of the elements of a list behind the first
 abbrev Taken : TermValue → Type 0
-Taken t = (fs : List Frame) (place : Place) (ts : List Token) → wants place ≡ true → depth t + length fs ≤ 256 → take_tokens (record { frames = fs; place = place }) (tokens_of t ++ ts) ≡ take_tokens (complete fs t) ts
+Taken t = (fs : List Frame) (place : NestPlace) (ts : List Token) → wants place ≡ true → depth t + length fs ≤ 256 → take_tokens (record { frames = fs; place = place }) (tokens_of t ++ ts) ≡ take_tokens (complete fs t) ts
 
 abbrev TakenAfter : TermValue → Type 0
 TakenAfter v = (k : Bracket) (ps : List TermValue) (fs : List Frame) (ts : List Token) → suc (parts_depth v) + length fs ≤ 256 → take_tokens (at_place k ps fs after) (tokens_after v ++ ts) ≡ take_tokens (at_place k (ps ++ elements v) fs after) ts
@@ -140,5 +140,5 @@ mutual
   taken_after other p b = absurd p
 
 -- the tokens of a term complete it
-pub take_term : (t : TermValue) (fs : List Frame) (place : Place) (ts : List Token) → wants place ≡ true → IsBuilt t → depth t + length fs ≤ 256 → take_tokens (record { frames = fs; place = place }) (tokens_of t ++ ts) ≡ take_tokens (complete fs t) ts
+pub take_term : (t : TermValue) (fs : List Frame) (place : NestPlace) (ts : List Token) → wants place ≡ true → IsBuilt t → depth t + length fs ≤ 256 → take_tokens (record { frames = fs; place = place }) (tokens_of t ++ ts) ≡ take_tokens (complete fs t) ts
 take_term t fs place ts w b h = taken t b fs place ts w h

@@ -5,7 +5,7 @@ pub mod Printed
 pub mod Token
 pub mod Machine
 pub mod Reading
-pub mod Good
+pub mod Valid
 pub mod ReaderView
 pub mod Next
 pub mod Script

@@ -8,12 +8,12 @@ use Rattle.term_text.specs.Printed.{is_name_character}
 use Rattle.term_text.specs.Token.{Token, opening, closing, comma, full_stop, name, number, is_white, fits, with_digit}
 
 -- where the next token stands
-pub data Place : Type 0 where
-  want : Place
-  opened : Place
-  after : Place
-  whole : TermValue → Place
-  stopped : TermValue → Place
+pub data NestPlace : Type 0 where
+  want : NestPlace
+  opened : NestPlace
+  after : NestPlace
+  whole : TermValue → NestPlace
+  stopped : TermValue → NestPlace
 
 -- a bracket that is open, and its parts so far
 pub record Frame : Type 0 where
@@ -23,14 +23,14 @@ pub record Frame : Type 0 where
 -- the open brackets, innermost first
 pub record NestState : Type 0 where
   pub frames : List Frame
-  pub place : Place
+  pub place : NestPlace
 
 -- the term in these brackets
 abbrev pub bracketed : Bracket → List TermValue → TermValue
 bracketed Tuple parts = tuple (chain parts nil)
 bracketed Square parts = chain parts nil
 
-abbrev pub wants : Place → Bool
+abbrev pub wants : NestPlace → Bool
 wants want = true
 wants opened = true
 wants after = false
@@ -50,7 +50,7 @@ same_bracket Tuple Square = false
 same_bracket Square Tuple = false
 same_bracket Square Square = true
 
-abbrev pub may_close : Place → Bool
+abbrev pub may_close : NestPlace → Bool
 may_close want = false
 may_close opened = true
 may_close after = true
@@ -61,14 +61,14 @@ abbrev pub close : Bracket → List Frame → Option NestState
 close k [] = None
 close k (f ∷ fs) = cond (same_bracket f.bracket k) (Some (complete fs (bracketed f.bracket f.parts))) None
 
-abbrev pub after_comma : List Frame → Place → Option NestState
+abbrev pub after_comma : List Frame → NestPlace → Option NestState
 after_comma fs want = None
 after_comma fs opened = None
 after_comma fs after = Some (record { frames = fs; place = want })
 after_comma fs (whole t) = None
 after_comma fs (stopped t) = None
 
-abbrev pub after_stop : List Frame → Place → Option NestState
+abbrev pub after_stop : List Frame → NestPlace → Option NestState
 after_stop fs want = None
 after_stop fs opened = None
 after_stop fs after = None
@@ -99,8 +99,8 @@ pub record ReaderState : Type 0 where
   pub nest : NestState
   pub token : Unfinished
 
-abbrev pub first_state : ReaderState
-first_state = record { nest = record { frames = []; place = want }; token = no_token }
+abbrev pub fresh_state : ReaderState
+fresh_state = record { nest = record { frames = []; place = want }; token = no_token }
 
 -- whether a byte goes on with the token
 abbrev pub goes_on : Unfinished → ℕ → Bool

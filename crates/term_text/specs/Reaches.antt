@@ -1,9 +1,9 @@
 -- What the machine has come to behind some bytes, up to the first full stop behind a whole term.
 use Rattle.std.specs.Prelude.{◌≡◌, ℕ, ◌+◌, ◌<◌, ◌≤◌, ◌^◌, true, false, cond, ◌&&◌, ◌==◌, List, [], ◌∷◌, ◌++◌, Some, None, ◌⊎◌}
 use Rattle.term_text.specs.Token.{is_white}
-use Rattle.term_text.specs.Machine.{ReaderState, first_state, step}
+use Rattle.term_text.specs.Machine.{ReaderState, fresh_state, step}
 use Rattle.term_text.specs.Reading.{is_stopped, HasFew}
-use Rattle.term_text.specs.Good.{Good}
+use Rattle.term_text.specs.Valid.{IsValid}
 
 -- the number of bytes from a term's first one on, with one more byte
 abbrev pub counted : ℕ → ℕ → ℕ
@@ -34,7 +34,7 @@ pub record Fails (s : ReaderState) (count : ℕ) (bytes : List ℕ) : Type 0 whe
 -- What holds between two bytes: no bracket has more parts than bytes were read, and while there is no full stop
 -- these are fewer than a term may have.
 pub record IsOrderly (s : ReaderState) (count : ℕ) : Type 0 where
-  pub good : Good s
+  pub valid : IsValid s
   pub few : HasFew count s.nest.frames
   pub short : is_stopped s.nest.place ≡ false → count < 2 ^ 24
-  pub fresh : count ≡ 0 → s ≡ first_state
+  pub fresh : count ≡ 0 → s ≡ fresh_state

@@ -3,14 +3,14 @@ use Rattle.std.specs.Prelude.{ℕ, ◌≤◌, Bool, true, false, List, map, reve
 use Rattle.std.specs.List.{AllByRecursion}
 use Rattle.term_text.specs.declared.nest.Open.{Open}
 use Rattle.term_text.specs.declared.nest.Nest.{Nest}
-use Rattle.term_text.specs.declared.nest.Place.{Place as Seat}
-use Rattle.term_text.specs.declared.nest.Place.TheVariants.{Want, Opened, After, Whole, Stopped}
-use Rattle.term_text.specs.Machine.{Place, want, opened, after, whole, stopped, Frame, NestState}
+use Rattle.term_text.specs.declared.nest.NestPlace.{NestPlace as Seat}
+use Rattle.term_text.specs.declared.nest.NestPlace.TheVariants.{Want, Opened, After, Whole, Stopped}
+use Rattle.term_text.specs.Machine.{NestPlace, want, opened, after, whole, stopped, Frame, NestState}
 
 abbrev pub frame_of : Open → Frame
 frame_of o = record { bracket = o.bracket; parts = o.parts }
 
-abbrev pub place_of : Seat → Place
+abbrev pub place_of : Seat → NestPlace
 place_of Want = want
 place_of Opened = opened
 place_of After = after
@@ -25,7 +25,7 @@ abbrev pub nest_of : Nest → NestState
 nest_of n = record { frames = frames_of n.open.items; place = place_of n.place }
 
 -- whether the last token was the full stop of a term
-abbrev pub is_stopped : Place → Bool
+abbrev pub is_stopped : NestPlace → Bool
 is_stopped want = false
 is_stopped opened = false
 is_stopped after = false

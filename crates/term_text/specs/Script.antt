@@ -11,7 +11,7 @@ use Rattle.term_text.specs.Next.{text_length, IsNext}
 
 -- More bytes can make these the text of a term with its full stop, and its next byte is within the limit. The text may
 -- be there, where its full stop is the last byte: what follows decides whether that is an end.
-pub record IsFront (bytes : List ℕ) : Type 0 where
+pub record IsFrontOfText (bytes : List ℕ) : Type 0 where
   pub term : TermValue
   pub more : List ℕ
   pub sentence : IsSentence term (bytes ++ more) []
@@ -20,13 +20,13 @@ pub record IsFront (bytes : List ℕ) : Type 0 where
 -- what stands behind the last term: white space alone, a front of a text, or what no more bytes make one
 pub data Rest : Type 0 where
   blank : Rest
-  begun : Rest
+  may_go_on : Rest
   faulty : Rest
 
 abbrev pub IsRest : Rest → List ℕ → Type 0
 IsRest blank bytes = each is_white bytes ≡ true
-IsRest begun bytes = (each is_white bytes ≡ false) × IsFront bytes
-IsRest faulty bytes = (each is_white bytes ≡ false) × (IsFront bytes → ⊥)
+IsRest may_go_on bytes = (each is_white bytes ≡ false) × IsFrontOfText bytes
+IsRest faulty bytes = (each is_white bytes ≡ false) × (IsFrontOfText bytes → ⊥)
 
 -- no term stands in front
 abbrev pub HasNone : Bool → List ℕ → Type 0
@@ -56,10 +56,10 @@ behind (first ∷ others) bytes = behind others (drop first.bytes bytes)
 -- what a feed answers where no term stands in front
 abbrev pub answer : Bool → Rest → Result Fed TextFault
 answer false blank = Ok Again
-answer false begun = Ok Again
+answer false may_go_on = Ok Again
 answer false faulty = Err NotYet
 answer true blank = Ok End
-answer true begun = Err NotYet
+answer true may_go_on = Err NotYet
 answer true faulty = Err NotYet
 
 -- no term stands in front, and this is the answer then

@@ -3,7 +3,7 @@ ghost use Rattle.dets_term.specs.Parts.{deepest};
 ghost use Rattle.term_text.specs.Token.{opening, closing, comma, full_stop};
 ghost use Rattle.term_text.specs.Machine.{want, stopped, may_begin, complete, bracketed, take_token};
 ghost use Rattle.term_text.specs.Reading.{nest_of, is_stopped, HasFew};
-ghost use Rattle.term_text.specs.Good.{GoodFrames};
+ghost use Rattle.term_text.specs.Valid.{ValidFrames};
 
 use crate::{Memory, TextFault};
 use dets_term::{Term, TermFault, TermList};
@@ -29,7 +29,7 @@ struct Open {
 
 /// Where the next token stands.
 #[derive(Drop)]
-enum Place {
+enum NestPlace {
     /// Where a term must begin.
     Want,
     /// Behind an opening bracket: a term may begin, or the bracket closes.
@@ -46,7 +46,7 @@ enum Place {
 #[derive(Drop)]
 pub(crate) struct Nest {
     open: Vec<Open>,
-    place: Place,
+    place: NestPlace,
 }
 
 impl Nest {
@@ -55,7 +55,7 @@ impl Nest {
     {
         Nest {
             open: Vec::new(alloc),
-            place: Place::Want,
+            place: NestPlace::Want,
         }
     }
 
@@ -63,14 +63,14 @@ impl Nest {
     pub(crate) fn may_begin(&self) -> bool
         ensures { result ≡ may_begin (nest_of self.now) }
     {
-        matches!(self.place, Place::Want | Place::Opened) && self.open.len() < MAX_LEVELS
+        matches!(self.place, NestPlace::Want | NestPlace::Opened) && self.open.len() < MAX_LEVELS
     }
 
     /// Whether the last token was the full stop of a term.
     pub(crate) fn is_stopped(&self) -> bool
         ensures { result ≡ is_stopped (nest_of self.now).place }
     {
-        matches!(self.place, Place::Stopped(_))
+        matches!(self.place, NestPlace::Stopped(_))
     }
 
     /// Takes an opening bracket.
@@ -85,7 +85,7 @@ impl Nest {
             bracket,
             parts: TermList::new(alloc),
         })?;
-        self.place = Place::Opened;
+        self.place = NestPlace::Opened;
         Ok(())
     }
 
@@ -94,11 +94,11 @@ impl Nest {
         ensures { OnOk result (nest_of self.new ≡ complete (nest_of self.old).frames term) }
     {
         match self.open.pop() {
-            None => self.place = Place::Whole(term),
+            None => self.place = NestPlace::Whole(term),
             Some(mut innermost) => {
                 innermost.parts.push(term)?;
                 self.open.push(innermost)?;
-                self.place = Place::After;
+                self.place = NestPlace::After;
             }
         }
         Ok(())
@@ -106,12 +106,12 @@ impl Nest {
 
     /// Takes a closing bracket.
     pub(crate) fn close(&mut self, bracket: Bracket) -> Result<(), TextFault>
-        requires good { GoodFrames (nest_of self.old).frames }
+        requires valid { ValidFrames (nest_of self.old).frames }
         requires few { HasFew (2 ^ 24) (nest_of self.old).frames }
         ensures ok { OnOk result (take_token (nest_of self.old) (closing bracket) ≡ Some (nest_of self.new)) }
         ensures not_yet { IsErrOf result TextFault.NotYet → take_token (nest_of self.old) (closing bracket) ≡ None }
     {
-        if !matches!(self.place, Place::Opened | Place::After) {
+        if !matches!(self.place, NestPlace::Opened | NestPlace::After) {
             return Err(TextFault::NotYet);
         }
         match self.open.pop() {
@@ -125,10 +125,10 @@ impl Nest {
         ensures ok { OnOk result (take_token (nest_of self.old) comma ≡ Some (nest_of self.new)) }
         ensures not_yet { IsErrOf result TextFault.NotYet → take_token (nest_of self.old) comma ≡ None }
     {
-        if !matches!(self.place, Place::After) {
+        if !matches!(self.place, NestPlace::After) {
             return Err(TextFault::NotYet);
         }
-        self.place = Place::Want;
+        self.place = NestPlace::Want;
         Ok(())
     }
 
@@ -137,9 +137,9 @@ impl Nest {
         ensures ok { OnOk result (take_token (nest_of self.old) full_stop ≡ Some (nest_of self.new)) }
         ensures not_yet { IsErrOf result TextFault.NotYet → take_token (nest_of self.old) full_stop ≡ None }
     {
-        match mem::replace(&mut self.place, Place::Want) {
-            Place::Whole(term) => {
-                self.place = Place::Stopped(term);
+        match mem::replace(&mut self.place, NestPlace::Want) {
+            NestPlace::Whole(term) => {
+                self.place = NestPlace::Stopped(term);
                 Ok(())
             }
             _ => Err(TextFault::NotYet),
@@ -152,8 +152,8 @@ impl Nest {
         ensures term { (nest_of self.old).place ≡ stopped result }
         ensures nest { nest_of self.new ≡ record { frames = (nest_of self.old).frames; place = want } }
     {
-        match mem::replace(&mut self.place, Place::Want) {
-            Place::Stopped(term) => term,
+        match mem::replace(&mut self.place, NestPlace::Want) {
+            NestPlace::Stopped(term) => term,
             _ => unreachable!(),
         }
     }

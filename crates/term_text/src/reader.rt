@@ -1,12 +1,12 @@
 ghost use Rattle.std.specs.Prelude.{◌≡◌, ◌-◌, ◌<◌, ◌≤◌, ◌+◌, ◌^◌, ◌==◌, true, false, length, take, ◌⊎◌, Some, None, option_and_then, IfOk, OnOk, IsErrOf};
 ghost use Rattle.dets_term.specs.TermValue.{atom};
 ghost use Rattle.term_text.specs.Token.{is_white, with_digit};
-ghost use Rattle.term_text.specs.Machine.{no_token, first_state, first_byte, settled, begun, step, stopped, ReaderState};
+ghost use Rattle.term_text.specs.Machine.{no_token, fresh_state, first_byte, settled, begun, step, stopped, ReaderState};
 ghost use Rattle.term_text.specs.Reading.{is_stopped, HasFew};
 ghost use Rattle.term_text.specs.Reading.{nest_of};
 ghost use Rattle.term_text.specs.ReaderView.{token_of, reader_of};
 ghost use Rattle.term_text.specs.Reaches.{Reaches, Fails, IsOrderly, IsInTime, counted};
-ghost use Rattle.term_text.specs.Good.{Good, GoodFrames};
+ghost use Rattle.term_text.specs.Valid.{IsValid, ValidFrames};
 
 use crate::TextFault;
 use crate::integer::Integer;
@@ -42,7 +42,7 @@ pub(crate) struct Reader {
 
 impl Reader {
     pub(crate) fn new(alloc: Global) -> Reader
-        ensures state { reader_of result ≡ first_state }
+        ensures state { reader_of result ≡ fresh_state }
         ensures length { result.length ≡ 0 }
     {
         Reader {
@@ -68,11 +68,11 @@ impl Reader {
 
     /// The term whose full stop was the last byte. The next term begins then.
     pub(crate) fn take_stopped(&mut self) -> Term
-        requires good { Good (reader_of self.old) }
+        requires valid { IsValid (reader_of self.old) }
         requires stopped { is_stopped (reader_of self.old).nest.place ≡ true }
         requires none { token_of self.old.token ≡ no_token }
         ensures term { (reader_of self.old).nest.place ≡ stopped result }
-        ensures state { reader_of self.new ≡ first_state }
+        ensures state { reader_of self.new ≡ fresh_state }
         ensures length { self.new.length ≡ 0 }
     {
         self.length = 0;
@@ -118,7 +118,7 @@ impl Reader {
 
     /// Reads one byte.
     fn read(&mut self, alloc: Global, byte: u8) -> Result<(), TextFault>
-        requires good { Good (reader_of self.old) }
+        requires valid { IsValid (reader_of self.old) }
         requires few { HasFew (2 ^ 24 - 1) (reader_of self.old).nest.frames }
         ensures ok { OnOk result (step (reader_of self.old) byte ≡ Some (reader_of self.new)) }
         ensures length { self.new.length ≡ self.old.length }
@@ -145,7 +145,7 @@ impl Reader {
 
     /// Reads a byte that does not go on with the token.
     fn read_apart(&mut self, alloc: Global, byte: u8) -> Result<(), TextFault>
-        requires good { Good (reader_of self.old) }
+        requires valid { IsValid (reader_of self.old) }
         requires few { HasFew (2 ^ 24 - 1) (reader_of self.old).nest.frames }
         ensures ok { OnOk result (option_and_then (λ n. begun n byte) (settled (nest_of self.old.nest) (token_of self.old.token)) ≡ Some (reader_of self.new)) }
         ensures length { self.new.length ≡ self.old.length }
@@ -157,7 +157,7 @@ impl Reader {
 
     /// Ends the token that was read, if there is one.
     fn end_token(&mut self, alloc: Global) -> Result<(), TextFault>
-        requires { Good (reader_of self.old) }
+        requires { IsValid (reader_of self.old) }
         ensures ok { OnOk result (settled (nest_of self.old.nest) (token_of self.old.token) ≡ Some (nest_of self.new.nest)) }
         ensures none { OnOk result (token_of self.new.token ≡ no_token) }
         ensures length { self.new.length ≡ self.old.length }
@@ -177,7 +177,7 @@ impl Reader {
     /// Reads the first byte of a token, or a byte between tokens.
     fn begin_token(&mut self, alloc: Global, byte: u8) -> Result<(), TextFault>
         requires none { token_of self.old.token ≡ no_token }
-        requires good { GoodFrames (nest_of self.old.nest).frames }
+        requires valid { ValidFrames (nest_of self.old.nest).frames }
         requires few { HasFew (2 ^ 24) (nest_of self.old.nest).frames }
         ensures ok { OnOk result (begun (nest_of self.old.nest) byte ≡ Some (reader_of self.new)) }
         ensures length { self.new.length ≡ self.old.length }

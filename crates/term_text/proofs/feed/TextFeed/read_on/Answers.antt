@@ -3,7 +3,7 @@ use Rattle.std.proofs.lemmas.List.{drop-drop, length-drop, length-take-le, take-
 use Rattle.std.proofs.lemmas.Bool.{eqb-true}
 use Rattle.std.proofs.lemmas.Bool.Decides.{nat_tests}
 use Rattle.std.proofs.Common.{Some, Ok, Err}
-use Rattle.term_text.specs.Machine.{first_state, stopped}
+use Rattle.term_text.specs.Machine.{fresh_state, stopped}
 use Rattle.term_text.specs.Reading.{is_stopped}
 use Rattle.term_text.specs.ReaderView.{reader_of}
 use Rattle.etf_model.specs.declared.fed.Fed.TheVariants.{Again, End}
@@ -93,7 +93,7 @@ returns-in-Some-true-clause-term c = λ t e.
       record {
         there = fits;
         sentence = whole.sentence;
-        within = subst (λ (k : ℕ). k ≤ 2 ^ 24) (total_counted first_state (take (behind - start) (drop start items)) _ _ reached) whole.within;
+        within = subst (λ (k : ℕ). k ≤ 2 ^ 24) (total_counted fresh_state (take (behind - start) (drop start items)) _ _ reached) whole.within;
         end = tested;
       },
     )
