@@ -88,7 +88,9 @@ valid_step s n x g e =
 -- ---- the bytes that it has read
 
 -- a token that is complete has been read, up to the byte behind it
-complete-read : (s m : NestState) (token : Token) (w spelling bytes : List ℕ) (x : ℕ) → ValidNest s → take_token s token ≡ Some m → each is_white w ≡ true → Spelled token spelling → IsApart token (x ∷ []) → Spells (read_tokens s.frames s.place) bytes (w ++ spelling) → Spells (read_tokens m.frames m.place) (bytes ++ x ∷ []) (x ∷ [])
+complete-read : (s m : NestState) (token : Token) (w spelling bytes : List ℕ) (x : ℕ) → ValidNest s → take_token s token ≡ Some m → each is_white w ≡ true
+    → Spelled token spelling → IsApart token (x ∷ []) → Spells (read_tokens s.frames s.place) bytes (w ++ spelling)
+    → Spells (read_tokens m.frames m.place) (bytes ++ x ∷ []) (x ∷ [])
 complete-read s m token w spelling bytes x g t white spelled apart text =
     subst (λ (ts : List Token). Spells ts (bytes ++ x ∷ []) (x ∷ [])) (sym (read_tokens-take_token s m token g.place t))
     (Spells-push (read_tokens s.frames s.place) token (bytes ++ x ∷ []) w spelling (x ∷ [])
@@ -106,13 +108,16 @@ number-spelled : (minus : Bool) (z : ℤ) (spelling : List ℕ) → TokenBytes (
 number-spelled false z spelling h = inl h
 number-spelled true z spelling h = inr h
 
-taken-name : (nest : NestState) (characters : List ℕ) → may_begin nest ≡ true → take_token nest (name characters) ≡ Some (complete nest.frames (atom characters))
+taken-name : (nest : NestState) (characters : List ℕ) → may_begin nest ≡ true
+    → take_token nest (name characters) ≡ Some (complete nest.frames (atom characters))
 taken-name nest characters b = ap (λ t. cond t (Some (complete nest.frames (atom characters))) None) b
 
 taken-number : (nest : NestState) (z : ℤ) → may_begin nest ≡ true → take_token nest (number z) ≡ Some (complete nest.frames (integer z))
 taken-number nest z b = ap (λ t. cond t (Some (complete nest.frames (integer z))) None) b
 
-settled-read : (nest m : NestState) (token : Unfinished) (blanks spelling bytes : List ℕ) (x : ℕ) → ValidNest nest → ValidToken nest token → goes_on token x ≡ false → settled nest token ≡ Some m → each is_white blanks ≡ true → TokenBytes token spelling → Spells (read_tokens nest.frames nest.place) bytes (blanks ++ spelling) → IsBefore m bytes x
+settled-read : (nest m : NestState) (token : Unfinished) (blanks spelling bytes : List ℕ) (x : ℕ) → ValidNest nest → ValidToken nest token
+    → goes_on token x ≡ false → settled nest token ≡ Some m → each is_white blanks ≡ true → TokenBytes token spelling
+    → Spells (read_tokens nest.frames nest.place) bytes (blanks ++ spelling) → IsBefore m bytes x
 settled-read nest m no_token blanks spelling bytes x g t h e white b text =
     let same : nest ≡ m = cc in
     subst (λ (k : NestState). IsBefore k bytes x) same (record {
@@ -138,7 +143,8 @@ settled-read nest m (in_number minus z) blanks spelling bytes x g t h e white b 
 }
 
 -- a byte that is a token is the last of the text of the tokens
-single-read : (m k : NestState) (token : Token) (bytes : List ℕ) (x : ℕ) → ValidNest m → IsBefore m bytes x → single x ≡ Some token → take_token m token ≡ Some k → Spells (read_tokens k.frames k.place) (bytes ++ x ∷ []) []
+single-read : (m k : NestState) (token : Token) (bytes : List ℕ) (x : ℕ) → ValidNest m → IsBefore m bytes x → single x ≡ Some token
+    → take_token m token ≡ Some k → Spells (read_tokens k.frames k.place) (bytes ++ x ∷ []) []
 single-read m k token bytes x g h s t =
     let spells = single-spells x token [] s in
     subst (λ (ts : List Token). Spells ts (bytes ++ x ∷ []) []) (sym (read_tokens-take_token m k token g.place t))
@@ -169,7 +175,8 @@ begun-reads m n x bytes g h e =
       text = h.text;
     }))
 
-before-settled : (s : ReaderState) (m : NestState) (x : ℕ) (bytes : List ℕ) → IsValid s → HasRead s bytes → goes_on s.token x ≡ false → settled s.nest s.token ≡ Some m → IsBefore m bytes x
+before-settled : (s : ReaderState) (m : NestState) (x : ℕ) (bytes : List ℕ) → IsValid s → HasRead s bytes → goes_on s.token x ≡ false
+    → settled s.nest s.token ≡ Some m → IsBefore m bytes x
 before-settled s m x bytes g r t q =
     settled-read s.nest m s.token r.blanks r.begun bytes x g.nest g.token t q r.blank r.token r.text
 
@@ -242,7 +249,8 @@ stop-close b (f ∷ fs) k e =
     let h = cond_some (same_bracket f.bracket b) (complete fs (bracketed f.bracket f.parts)) k e in
     subst (λ (m : NestState). IsGoingOn m) h.1 (complete-going_on fs (bracketed f.bracket f.parts))
 
-stop-after_stop : (fs : List Frame) (p : NestPlace) (k : NestState) (t : TermValue) → ValidPlace fs p → after_stop fs p ≡ Some k → k.place ≡ stopped t → k ≡ record { frames = []; place = stopped t }
+stop-after_stop : (fs : List Frame) (p : NestPlace) (k : NestState) (t : TermValue) → ValidPlace fs p → after_stop fs p ≡ Some k → k.place ≡ stopped t
+    → k ≡ record { frames = []; place = stopped t }
 stop-after_stop fs want k t g e h = cc
 stop-after_stop fs opened k t g e h = cc
 stop-after_stop fs after k t g e h = cc
@@ -252,7 +260,8 @@ stop-after_stop fs (whole u) k t g e h =
     sym same ∙ ap (λ (l : List Frame). record { frames = l; place = stopped u }) g.0 ∙ ap (λ (p : NestPlace). record { frames = []; place = p }) q
 stop-after_stop fs (stopped u) k t g e h = cc
 
-take_token-stops : (m k : NestState) (token : Token) (t : TermValue) → ValidNest m → take_token m token ≡ Some k → k.place ≡ stopped t → (token ≡ full_stop) × (k ≡ record { frames = []; place = stopped t })
+take_token-stops : (m k : NestState) (token : Token) (t : TermValue) → ValidNest m → take_token m token ≡ Some k → k.place ≡ stopped t → (token ≡ full_stop)
+    × (k ≡ record { frames = []; place = stopped t })
 take_token-stops m k (opening b) t g e h =
     let p = cond_some (may_begin m) (record { frames = record { bracket = b; parts = [] } ∷ m.frames; place = opened }) k e in
     let q : opened ≡ stopped t = ap (λ (m : NestState). m.place) p.1 ∙ h in cc
@@ -275,7 +284,8 @@ pub record IsRead (t : TermValue) (bytes : List ℕ) (x : ℕ) (n : ReaderState)
   pub same : n ≡ record { nest = record { frames = []; place = stopped t }; token = no_token }
   pub dot : x ≡ 46
 
-begun-stops : (m : NestState) (n : ReaderState) (x : ℕ) (bytes : List ℕ) (t : TermValue) → ValidNest m → IsGoingOn m → IsBefore m bytes x → begun m x ≡ Some n → n.nest.place ≡ stopped t → IsRead t bytes x n
+begun-stops : (m : NestState) (n : ReaderState) (x : ℕ) (bytes : List ℕ) (t : TermValue) → ValidNest m → IsGoingOn m → IsBefore m bytes x → begun m x ≡ Some n
+    → n.nest.place ≡ stopped t → IsRead t bytes x n
 begun-stops m n x bytes t g on h e p =
     by_begun m n x e
     (λ w same. absurd (on t (ap (λ (s : ReaderState). s.nest.place) same ∙ p)))
@@ -296,7 +306,8 @@ begun-stops m n x bytes t g on h e p =
     (λ u b f same. absurd (on t (ap (λ (s : ReaderState). s.nest.place) same ∙ p)))
 
 -- a byte that stops a valid state is the full stop of a sentence, and nothing follows it
-pub stop_step : (s n : ReaderState) (x : ℕ) (bytes : List ℕ) (t : TermValue) → IsValid s → HasRead s bytes → IsGoingOn s.nest → step s x ≡ Some n → n.nest.place ≡ stopped t → IsRead t bytes x n
+pub stop_step : (s n : ReaderState) (x : ℕ) (bytes : List ℕ) (t : TermValue) → IsValid s → HasRead s bytes → IsGoingOn s.nest → step s x ≡ Some n
+    → n.nest.place ≡ stopped t → IsRead t bytes x n
 stop_step s n x bytes t g r on e p =
     by_step s n x e
     (λ u _ q same. absurd (on t (ap (λ (s : ReaderState). s.nest.place) same ∙ p)))
@@ -304,11 +315,14 @@ stop_step s n x bytes t g r on e p =
     (settled-going_on s.nest m s.token on q) (before-settled s m x bytes g r c q) b p)
 
 -- what the machine stops behind is a sentence
-pub sound : (bytes : List ℕ) (x : ℕ) (s n : ReaderState) (t : TermValue) → run fresh_state bytes ≡ Some s → ((u : TermValue) → s.nest.place ≡ stopped u → ⊥) → step s x ≡ Some n → n.nest.place ≡ stopped t → IsSentence t (bytes ++ x ∷ []) []
+pub sound : (bytes : List ℕ) (x : ℕ) (s n : ReaderState) (t : TermValue) → run fresh_state bytes ≡ Some s → ((u : TermValue) → s.nest.place ≡ stopped u → ⊥)
+    → step s x ≡ Some n → n.nest.place ≡ stopped t → IsSentence t (bytes ++ x ∷ []) []
 sound bytes x s n t e on q p =
     let both = run_reads bytes s e in (stop_step s n x bytes t both.0 both.1 on q p).sentence
 
-pub stop_state : (bytes : List ℕ) (x : ℕ) (s n : ReaderState) (t : TermValue) → run fresh_state bytes ≡ Some s → ((u : TermValue) → s.nest.place ≡ stopped u → ⊥) → step s x ≡ Some n → n.nest.place ≡ stopped t → (n ≡ record { nest = record { frames = []; place = stopped t }; token = no_token }) × (x ≡ 46)
+pub stop_state : (bytes : List ℕ) (x : ℕ) (s n : ReaderState) (t : TermValue) → run fresh_state bytes ≡ Some s
+    → ((u : TermValue) → s.nest.place ≡ stopped u → ⊥) → step s x ≡ Some n → n.nest.place ≡ stopped t
+    → (n ≡ record { nest = record { frames = []; place = stopped t }; token = no_token }) × (x ≡ 46)
 stop_state bytes x s n t e on q p =
     let both = run_reads bytes s e in
     let read = stop_step s n x bytes t both.0 both.1 on q p in (read.same, read.dot)

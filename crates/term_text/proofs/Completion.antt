@@ -43,7 +43,8 @@ closing_byte Square = 93
 abbrev bracket_at : Bracket → List TermValue → List Frame → NestPlace → NestState
 bracket_at k ps fs place = record { frames = record { bracket = k; parts = ps } ∷ fs; place = place }
 
-step_closing : (k : Bracket) (ps : List TermValue) (fs : List Frame) (place : NestPlace) → may_close place ≡ true → step (between (bracket_at k ps fs place)) (closing_byte k) ≡ Some (between (complete fs (bracketed k ps)))
+step_closing : (k : Bracket) (ps : List TermValue) (fs : List Frame) (place : NestPlace) → may_close place ≡ true
+    → step (between (bracket_at k ps fs place)) (closing_byte k) ≡ Some (between (complete fs (bracketed k ps)))
 step_closing Tuple ps fs place m = rw m
 step_closing Square ps fs place m = rw m
 
@@ -74,7 +75,8 @@ room (f ∷ fs) g more = has_room f.parts g.1 more
 step_opening : (fs : List Frame) → length fs < 256 → step (between (record { frames = fs; place = want })) 91 ≡ Some (between (bracket_at Square [] fs opened))
 step_opening fs h = let l = lt-ltb (length fs) 256 h in rw l
 
-nest_stops : (fs : List Frame) (place : NestPlace) → ValidFrames fs → ValidPlace fs place → is_stopped place ≡ false → CanStop (between (record { frames = fs; place = place }))
+nest_stops : (fs : List Frame) (place : NestPlace) → ValidFrames fs → ValidPlace fs place → is_stopped place ≡ false
+    → CanStop (between (record { frames = fs; place = place }))
 nest_stops fs want g p e =
     by_byte (between (record { frames = fs; place = want })) (between (bracket_at Square [] fs opened)) 91 (step_opening fs (room fs g p))
     (by_byte (between (bracket_at Square [] fs opened)) (between (complete fs nil)) 93 (step_closing Square [] fs opened refl) (complete_stops fs nil))
@@ -103,7 +105,8 @@ ended_by : (u : Unfinished) (k : Bracket) → IsEnded u → goes_on u (closing_b
 ended_by u Tuple e = e.brace
 ended_by u Square e = e.square
 
-token_stops : (s : NestState) (u : Unfinished) (fs : List Frame) (t : TermValue) → is_stopped s.place ≡ false → IsEnded u → settled s u ≡ Some (complete fs t) → CanStop (amid s u)
+token_stops : (s : NestState) (u : Unfinished) (fs : List Frame) (t : TermValue) → is_stopped s.place ≡ false → IsEnded u → settled s u ≡ Some (complete fs t)
+    → CanStop (amid s u)
 token_stops s u [] t going e f = record {
   term = t;
   init = [];
@@ -123,12 +126,14 @@ state_stops s (in_name characters) g e =
     token_stops s (in_name characters) s.frames (atom characters) e (record { brace = refl; square = refl; dot = refl }) refl
 state_stops s in_minus g e =
     by_byte (amid s in_minus) (amid s (in_number true (with_digit true (pos 0) 48))) 48 (step_minus s 48 refl)
-    (token_stops s (in_number true (with_digit true (pos 0) 48)) s.frames (integer (with_digit true (pos 0) 48)) e (record { brace = refl; square = refl; dot = refl }) refl)
+    (token_stops s (in_number true (with_digit true (pos 0) 48)) s.frames (integer (with_digit true (pos 0) 48)) e
+    (record { brace = refl; square = refl; dot = refl }) refl)
 state_stops s (in_number minus z) g e =
     token_stops s (in_number minus z) s.frames (integer z) e (record { brace = refl; square = refl; dot = refl }) refl
 
 -- bytes behind which no full stop stands yet are the front of a text
-pub front_of_text : (bytes : List ℕ) (n : ReaderState) (total : ℕ) → Reaches fresh_state 0 bytes n total → IsValid n → is_stopped n.nest.place ≡ false → total < 2 ^ 24 → IsFrontOfText bytes
+pub front_of_text : (bytes : List ℕ) (n : ReaderState) (total : ℕ) → Reaches fresh_state 0 bytes n total → IsValid n → is_stopped n.nest.place ≡ false
+    → total < 2 ^ 24 → IsFrontOfText bytes
 front_of_text bytes n total r g e h =
     let c = state_stops n.nest n.token g e in
     let led : run fresh_state (bytes ++ c.init) ≡ Some c.before =
@@ -139,7 +144,14 @@ front_of_text bytes n total r g e h =
       sentence =
           subst (λ (l : List ℕ). IsSentence c.term l []) (append_assoc bytes c.init (46 ∷ []))
           (sound (bytes ++ c.init) 46 c.before (between (stopped_nest c.term)) c.term led c.going c.stop refl);
-      within = omega (arith, h, total_counted fresh_state bytes n total r, text_length-append bytes (take 1 (c.init ++ 46 ∷ [])), length_one (c.init ++ 46 ∷ []));
+      within = omega (
+        arith,
+        h,
+        total_counted fresh_state bytes n total r,
+        text_length-append bytes (take 1 (c.init ++ 46 ∷ [])),
+        length_one
+            (c.init ++ 46 ∷ []),
+      );
     }
   where
     length_one : (xs : List ℕ) → length (take 1 xs) ≤ 1

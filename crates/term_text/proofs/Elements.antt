@@ -17,22 +17,26 @@ left_from closing zero ts = printed_elements closing (chain ts nil)
 left_from closing (suc n) [] = closing
 left_from closing (suc n) (t ∷ ts) = left_after closing n ts
 
-left_after-step : (closing : List ℕ) (n : ℕ) (ts : List TermValue) (part : TermValue) → slice_get ts n ≡ Some part → left_after closing n ts ≡ 44 ∷ (printed part ++ left_after closing (suc n) ts)
+left_after-step : (closing : List ℕ) (n : ℕ) (ts : List TermValue) (part : TermValue) → slice_get ts n ≡ Some part
+    → left_after closing n ts ≡ 44 ∷ (printed part ++ left_after closing (suc n) ts)
 left_after-step closing n [] part e = cc
 left_after-step closing zero (t ∷ ts) part e =
     let same : t ≡ part = cc in ap (λ p. 44 ∷ (printed p ++ printed_after closing (chain ts nil))) same
 left_after-step closing (suc n) (t ∷ ts) part e = left_after-step closing n ts part e
 
-left_from-first : (closing : List ℕ) (ts : List TermValue) (part : TermValue) → slice_get ts 0 ≡ Some part → left_from closing 0 ts ≡ printed part ++ left_from closing 1 ts
+left_from-first : (closing : List ℕ) (ts : List TermValue) (part : TermValue) → slice_get ts 0 ≡ Some part
+    → left_from closing 0 ts ≡ printed part ++ left_from closing 1 ts
 left_from-first closing [] part e = cc
 left_from-first closing (t ∷ ts) part e =
     let same : t ≡ part = cc in ap (λ p. printed p ++ printed_after closing (chain ts nil)) same
 
-left_from-suc : (closing : List ℕ) (n : ℕ) (ts : List TermValue) (part : TermValue) → slice_get ts (suc n) ≡ Some part → left_from closing (suc n) ts ≡ 44 ∷ (printed part ++ left_from closing (suc (suc n)) ts)
+left_from-suc : (closing : List ℕ) (n : ℕ) (ts : List TermValue) (part : TermValue) → slice_get ts (suc n) ≡ Some part
+    → left_from closing (suc n) ts ≡ 44 ∷ (printed part ++ left_from closing (suc (suc n)) ts)
 left_from-suc closing n [] part e = cc
 left_from-suc closing n (t ∷ ts) part e = left_after-step closing n ts part e
 
-left_from-next : (closing : List ℕ) (n : ℕ) (ts : List TermValue) (part : TermValue) → 0 < n → slice_get ts n ≡ Some part → left_from closing n ts ≡ 44 ∷ (printed part ++ left_from closing (n + 1) ts)
+left_from-next : (closing : List ℕ) (n : ℕ) (ts : List TermValue) (part : TermValue) → 0 < n → slice_get ts n ≡ Some part
+    → left_from closing n ts ≡ 44 ∷ (printed part ++ left_from closing (n + 1) ts)
 left_from-next closing zero ts part h e = absurd (omega arith)
 left_from-next closing (suc n) ts part h e =
     let more : suc n + 1 ≡ suc (suc n) = omega arith in rw more (left_from-suc closing n ts part e)
@@ -60,14 +64,16 @@ printed-list [] = refl
 printed-list (t ∷ ts) = refl
 
 -- an element is printed: the first one, and with a comma each one after it
-pub first_printed : (closing out mid new : List ℕ) (n : ℕ) (ts : List TermValue) (part : TermValue) → n ≡ 0 → slice_get ts n ≡ Some part → mid ≡ out → new ≡ mid ++ printed part → new ++ left_from closing (n + 1) ts ≡ out ++ left_from closing n ts
+pub first_printed : (closing out mid new : List ℕ) (n : ℕ) (ts : List TermValue) (part : TermValue) → n ≡ 0 → slice_get ts n ≡ Some part → mid ≡ out
+    → new ≡ mid ++ printed part → new ++ left_from closing (n + 1) ts ≡ out ++ left_from closing n ts
 first_printed closing out mid new zero ts part z e m h =
     ap (λ bytes. bytes ++ left_from closing 1 ts) (h ∙ ap (λ bytes. bytes ++ printed part) m)
     ∙ append_assoc out (printed part) (left_from closing 1 ts)
     ∙ ap (λ bytes. out ++ bytes) (sym (left_from-first closing ts part e))
 first_printed closing out mid new (suc n) ts part z e m h = absurd (omega arith)
 
-pub next_printed : (closing out mid new : List ℕ) (n : ℕ) (ts : List TermValue) (part : TermValue) → 0 < n → slice_get ts n ≡ Some part → mid ≡ out ++ 44 ∷ [] → new ≡ mid ++ printed part → new ++ left_from closing (n + 1) ts ≡ out ++ left_from closing n ts
+pub next_printed : (closing out mid new : List ℕ) (n : ℕ) (ts : List TermValue) (part : TermValue) → 0 < n → slice_get ts n ≡ Some part → mid ≡ out ++ 44 ∷ []
+    → new ≡ mid ++ printed part → new ++ left_from closing (n + 1) ts ≡ out ++ left_from closing n ts
 next_printed closing out mid new n ts part z e m h =
     ap (λ bytes. bytes ++ left_from closing (n + 1) ts) (h ∙ ap (λ bytes. bytes ++ printed part) m)
     ∙ append_assoc (out ++ 44 ∷ []) (printed part) (left_from closing (n + 1) ts)
@@ -91,21 +97,24 @@ after_bar end nil e = cc
 after_bar end (cons first rest) e = cc
 after_bar end (bits bs) e = refl
 
-after_elements : (ts : List TermValue) (tail : TermValue) → is_list tail ≡ false → printed_after (93 ∷ []) (chain ts tail) ≡ printed_after (124 ∷ []) (chain ts nil) ++ (printed tail ++ 93 ∷ [])
+after_elements : (ts : List TermValue) (tail : TermValue) → is_list tail ≡ false
+    → printed_after (93 ∷ []) (chain ts tail) ≡ printed_after (124 ∷ []) (chain ts nil) ++ (printed tail ++ 93 ∷ [])
 after_elements [] tail e = after_bar (93 ∷ []) tail e
 after_elements (t ∷ ts) tail e =
     ap (λ l. 44 ∷ (printed t ++ l)) (after_elements ts tail e)
     ∙ ap (λ l. 44 ∷ l) (sym (append_assoc (printed t) (printed_after (124 ∷ []) (chain ts nil)) (printed tail ++ 93 ∷ [])))
 
 -- an improper list is printed as its elements, a bar and its tail in brackets
-pub printed-improper : (ts : List TermValue) (tail : TermValue) → 0 < length ts → is_list tail ≡ false → printed (chain ts tail) ≡ 91 ∷ (printed_elements (124 ∷ []) (chain ts nil) ++ (printed tail ++ 93 ∷ []))
+pub printed-improper : (ts : List TermValue) (tail : TermValue) → 0 < length ts → is_list tail ≡ false
+    → printed (chain ts tail) ≡ 91 ∷ (printed_elements (124 ∷ []) (chain ts nil) ++ (printed tail ++ 93 ∷ []))
 printed-improper [] tail some e = absurd (omega arith)
 printed-improper (t ∷ ts) tail some e =
     ap (λ l. 91 ∷ (printed t ++ l)) (after_elements ts tail e)
     ∙ ap (λ l. 91 ∷ l) (sym (append_assoc (printed t) (printed_after (124 ∷ []) (chain ts nil)) (printed tail ++ 93 ∷ [])))
 
 -- an improper list is deeper than its elements and its tail
-pub improper_falls : (t : TermValue) (ts : List TermValue) (tail : TermValue) → t ≡ chain ts tail → 0 < length ts → is_list tail ≡ false → (2 * deepest ts + 1 < 2 * depth t) × (2 * depth tail < 2 * depth t)
+pub improper_falls : (t : TermValue) (ts : List TermValue) (tail : TermValue) → t ≡ chain ts tail → 0 < length ts → is_list tail ≡ false
+    → (2 * deepest ts + 1 < 2 * depth t) × (2 * depth tail < 2 * depth t)
 improper_falls t ts tail e some other =
     let d : parts_depth t ≡ parts_depth (chain ts tail) = ap parts_depth e in
     let both = parts_depth-improper ts tail some other in
@@ -121,11 +130,13 @@ each-chain : (ts : List TermValue) → printed_each (chain ts nil) ≡ map print
 each-chain [] = refl
 each-chain (t ∷ ts) = ap (λ l. printed t ∷ l) (each-chain ts)
 
-entries_behind : (ps : List (TermValue × TermValue)) → flat_map (λ p. 44 ∷ printed_pair p) (zip (map printed (map (λ p. p.0) ps)) (map printed (map (λ p. p.1) ps))) ≡ flat_map (λ p. 44 ∷ printed_entry p) ps
+entries_behind : (ps : List (TermValue × TermValue)) → flat_map (λ p. 44 ∷ printed_pair p)
+    (zip (map printed (map (λ p. p.0) ps)) (map printed (map (λ p. p.1) ps))) ≡ flat_map (λ p. 44 ∷ printed_entry p) ps
 entries_behind [] = refl
 entries_behind (p ∷ ps) = ap (λ l. 44 ∷ (printed_entry p ++ l)) (entries_behind ps)
 
-joined_entries : (ps : List (TermValue × TermValue)) → join_by printed_pair (44 ∷ []) (zip (map printed (map (λ p. p.0) ps)) (map printed (map (λ p. p.1) ps))) ≡ join_by printed_entry (44 ∷ []) ps
+joined_entries : (ps : List (TermValue × TermValue)) → join_by printed_pair (44 ∷ [])
+    (zip (map printed (map (λ p. p.0) ps)) (map printed (map (λ p. p.1) ps))) ≡ join_by printed_entry (44 ∷ []) ps
 joined_entries [] = refl
 joined_entries (p ∷ ps) = ap (λ l. printed_entry p ++ l) (entries_behind ps)
 
@@ -136,7 +147,8 @@ printed-map ps =
     ∙ ap (λ vs. 35 ∷ 123 ∷ (join_by printed_pair (44 ∷ []) (zip (map printed (map (λ p. p.0) ps)) vs) ++ 125 ∷ [])) (each-chain (map (λ p. p.1) ps))
     ∙ ap (λ l. 35 ∷ 123 ∷ (l ++ 125 ∷ [])) (joined_entries ps)
 
-pub entry_printed : (mid first bar new : List ℕ) (p : TermValue × TermValue) → first ≡ mid ++ printed p.0 → bar ≡ first ++ 61 ∷ 62 ∷ [] → new ≡ bar ++ printed p.1 → new ≡ mid ++ printed_entry p
+pub entry_printed : (mid first bar new : List ℕ) (p : TermValue × TermValue) → first ≡ mid ++ printed p.0 → bar ≡ first ++ 61 ∷ 62 ∷ []
+    → new ≡ bar ++ printed p.1 → new ≡ mid ++ printed_entry p
 entry_printed mid first bar new p e f g =
     g ∙ ap (λ l. l ++ printed p.1) (f ∙ ap (λ l. l ++ 61 ∷ 62 ∷ []) e ∙ append_assoc mid (printed p.0) (61 ∷ 62 ∷ []))
     ∙ append_assoc mid (printed p.0 ++ 61 ∷ 62 ∷ []) (printed p.1)
@@ -145,7 +157,8 @@ entry_printed mid first bar new p e f g =
 pub map_falls : (t : TermValue) (ps : List (TermValue × TermValue)) → t ≡ map_of ps → 2 * deepest_of_pairs ps + 1 < 2 * depth t
 map_falls t ps e = let d : depth t ≡ suc (deepest_of_pairs ps) = ap suc (ap parts_depth e ∙ parts_depth-map_of ps) in omega arith
 
-pub pair_falls : (ps : List (TermValue × TermValue)) (n : ℕ) (p : TermValue × TermValue) → slice_get ps n ≡ Some p → (2 * depth p.0 < 2 * deepest_of_pairs ps + 1) × (2 * depth p.1 < 2 * deepest_of_pairs ps + 1)
+pub pair_falls : (ps : List (TermValue × TermValue)) (n : ℕ) (p : TermValue × TermValue) → slice_get ps n ≡ Some p
+    → (2 * depth p.0 < 2 * deepest_of_pairs ps + 1) × (2 * depth p.1 < 2 * deepest_of_pairs ps + 1)
 pair_falls [] n p e = cc
 pair_falls (q ∷ ps) zero p e =
     let same : q ≡ p = cc in

@@ -39,7 +39,8 @@ abbrev Course : ReaderState → ℕ → List ℕ → Type 0
 Course s c bytes = Stops s c bytes ⊎ (Goes s c bytes ⊎ Fails s c bytes)
 
 -- one byte in front
-course_behind : (s m : ReaderState) (c x : ℕ) (bytes : List ℕ) → is_stopped s.nest.place ≡ false → step s x ≡ Some m → IsInTime m (counted c x) → Course m (counted c x) bytes → Course s c (x ∷ bytes)
+course_behind : (s m : ReaderState) (c x : ℕ) (bytes : List ℕ) → is_stopped s.nest.place ≡ false → step s x ≡ Some m → IsInTime m (counted c x)
+    → Course m (counted c x) bytes → Course s c (x ∷ bytes)
 course_behind s m c x bytes going e t (inl h) = inl (record {
   front = x ∷ h.front;
   rest = h.rest;
@@ -69,13 +70,15 @@ fails_here : (s : ReaderState) (c x : ℕ) (bytes : List ℕ) → is_stopped s.n
 fails_here s c x bytes going f =
     inr (inr (record { front = []; byte = x; rest = bytes; whole = refl; state = s; total = c; reached = (refl, refl); moving = going; failed = f }))
 
-course_on : (x : ℕ) (bytes : List ℕ) (s : ReaderState) (c : ℕ) → IsOrderly s c → ((m : ReaderState) (d : ℕ) → IsOrderly m d → Course m d bytes) → Course s c (x ∷ bytes)
+course_on : (x : ℕ) (bytes : List ℕ) (s : ReaderState) (c : ℕ) → IsOrderly s c → ((m : ReaderState) (d : ℕ) → IsOrderly m d → Course m d bytes)
+    → Course s c (x ∷ bytes)
 course_on x bytes s c o others = by_place (cases_Bool (is_stopped s.nest.place))
   where
     on : (m : ReaderState) → is_stopped s.nest.place ≡ false → step s x ≡ Some m → IsInTime m (counted c x) → Course s c (x ∷ bytes)
     on m going e t = course_behind s m c x bytes going e t (others m (counted c x) (orderly_step s c x m o going e t))
 
-    in_time : (m : ReaderState) → is_stopped s.nest.place ≡ false → step s x ≡ Some m → (is_stopped m.nest.place ≡ true) ⊎ (is_stopped m.nest.place ≡ false) → (counted c x < 2 ^ 24) ⊎ (2 ^ 24 ≤ counted c x) → Course s c (x ∷ bytes)
+    in_time : (m : ReaderState) → is_stopped s.nest.place ≡ false → step s x ≡ Some m → (is_stopped m.nest.place ≡ true) ⊎ (is_stopped m.nest.place ≡ false)
+        → (counted c x < 2 ^ 24) ⊎ (2 ^ 24 ≤ counted c x) → Course s c (x ∷ bytes)
     in_time m going e (inl stops) h = on m going e (inl stops)
     in_time m going e (inr goes) (inl less) = on m going e (inr less)
     in_time m going e (inr goes) (inr past) = fails_here s c x bytes going (inr (m, e, goes, past))
@@ -102,7 +105,8 @@ abbrev HasScript : Bool → List ℕ → Type 0
 HasScript finished bytes = (terms : List Placed) × ((rest : Rest) × IsScript finished bytes terms rest)
 
 -- a term in front of a script
-first_placed : (finished : Bool) (front rest : List ℕ) (t : TermValue) → IsSentence t front [] → text_length front ≤ 2 ^ 24 → ends finished rest ≡ Some true → HasScript finished rest → HasScript finished (front ++ rest)
+first_placed : (finished : Bool) (front rest : List ℕ) (t : TermValue) → IsSentence t front [] → text_length front ≤ 2 ^ 24 → ends finished rest ≡ Some true
+    → HasScript finished rest → HasScript finished (front ++ rest)
 first_placed finished front rest t s h e others = (
   record { term = t; bytes = length front } ∷ others.0,
   (
@@ -119,7 +123,8 @@ first_placed finished front rest t s h e others = (
   ),
 )
 
-script_of_course : (finished : Bool) (bytes : List ℕ) → ((rest : List ℕ) → length rest < length bytes → HasScript finished rest) → Course fresh_state 0 bytes → HasScript finished bytes
+script_of_course : (finished : Bool) (bytes : List ℕ) → ((rest : List ℕ) → length rest < length bytes → HasScript finished rest) → Course fresh_state 0 bytes
+    → HasScript finished bytes
 script_of_course finished bytes shorter (inl h) = subst (λ (l : List ℕ). HasScript finished l) (sym h.whole) (by_end (ends finished h.rest) refl)
   where
     by_end : (o : Option Bool) → ends finished h.rest ≡ o → HasScript finished (h.front ++ h.rest)
@@ -137,7 +142,8 @@ script_within : (n : ℕ) (finished : Bool) (bytes : List ℕ) → length bytes 
 script_within zero finished bytes h =
     script_of_course finished bytes (λ rest less. absurd (omega (arith, h, less))) (course bytes fresh_state 0 (fresh_order fresh_state 0 refl refl))
 script_within (suc n) finished bytes h =
-    script_of_course finished bytes (λ rest less. script_within n finished rest (omega (arith, h, less))) (course bytes fresh_state 0 (fresh_order fresh_state 0 refl refl))
+    script_of_course finished bytes (λ rest less. script_within n finished rest (omega (arith, h, less)))
+    (course bytes fresh_state 0 (fresh_order fresh_state 0 refl refl))
 
 pub script_exists : (finished : Bool) (bytes : List ℕ) → HasScript finished bytes
 script_exists finished bytes = script_within (length bytes) finished bytes (omega arith)

@@ -29,7 +29,8 @@ GoesPast text front x d = (q : List ℕ) × (text ≡ front ++ (x ∷ q)) × (0 
 past_front : (y : ℕ) (text front : List ℕ) (x d : ℕ) → GoesPast text front x d → GoesPast (y ∷ text) (y ∷ front) x d
 past_front y text front x d (q, e, f, g) = (q, ap (λ l. y ∷ l) e, f, g)
 
-one_too_many : (text : List ℕ) (m stop : ReaderState) (x d : ℕ) → IsRefused m d x → run m (x ∷ text) ≡ Some stop → is_stopped stop.nest.place ≡ true → (0 < length text) × (2 ^ 24 ≤ counted d x)
+one_too_many : (text : List ℕ) (m stop : ReaderState) (x d : ℕ) → IsRefused m d x → run m (x ∷ text) ≡ Some stop → is_stopped stop.nest.place ≡ true
+    → (0 < length text) × (2 ^ 24 ≤ counted d x)
 one_too_many text m stop x d (inl none) e p =
     let gone : ◌≡◌ {A = Option ReaderState} None (Some stop) = sym (ap (option_and_then (λ (k : ReaderState). run k text)) none) ∙ e in cc
 one_too_many [] m stop x d (inr (n, here, going, over)) e p =
@@ -59,7 +60,8 @@ goes_past (y ∷ front) (w ∷ text) x z rest s c m d stop r going f e p h =
     (sym (run_step s r.1.0 y text r.1.1) ∙ ap (λ v. run s (v ∷ text)) b.0 ∙ e) p b.1))
 
 -- a sentence in front of bytes that fail, and of what follows them, goes past the limit
-sentence_past : (bytes more text rest : List ℕ) (t : TermValue) (f : Fails fresh_state 0 bytes) → IsSentence t text [] → bytes ++ more ≡ text ++ rest → GoesPast text f.front f.byte f.total
+sentence_past : (bytes more text rest : List ℕ) (t : TermValue) (f : Fails fresh_state 0 bytes) → IsSentence t text [] → bytes ++ more ≡ text ++ rest
+    → GoesPast text f.front f.byte f.total
 sentence_past bytes more text rest t f s h =
     goes_past f.front text f.byte (f.rest ++ more) rest fresh_state 0 f.state f.total (between (stopped_nest t)) f.reached f.moving f.failed
     (stop_reached t text s) refl
@@ -89,11 +91,20 @@ some_next (x ∷ tail) more h = omega arith
 failed_no_front : (bytes : List ℕ) → Fails fresh_state 0 bytes → IsFrontOfText bytes → ⊥
 failed_no_front bytes f ahead =
     let past = sentence_past bytes ahead.more (bytes ++ ahead.more) [] ahead.term f ahead.sentence (sym (append-nil (bytes ++ ahead.more))) in
-    let whole : bytes ++ ahead.more ≡ f.front ++ (f.byte ∷ (f.rest ++ ahead.more)) = ap (λ l. l ++ ahead.more) f.whole ∙ append_assoc f.front (f.byte ∷ f.rest) ahead.more in
+    let whole : bytes ++ ahead.more ≡ f.front ++ (f.byte ∷ (f.rest ++ ahead.more)) = ap (λ l. l ++ ahead.more) f.whole
+    ∙ append_assoc f.front (f.byte ∷ f.rest) ahead.more in
     let lengths : length (f.front ++ (f.byte ∷ past.0)) ≡ length (f.front ++ (f.byte ∷ (f.rest ++ ahead.more))) = ap length (sym past.1 ∙ whole) in
-    let some : 0 < length (f.rest ++ ahead.more) = omega (arith, lengths, length-append f.front (f.byte ∷ past.0), length-append f.front (f.byte ∷ (f.rest ++ ahead.more)), past.2) in
+    let some : 0 < length (f.rest ++ ahead.more) = omega (
+      arith,
+      lengths,
+      length-append f.front (f.byte ∷ past.0),
+      length-append f.front
+          (f.byte ∷ (f.rest ++ ahead.more)),
+      past.2,
+    ) in
     let over = over_limit f.front f.byte (f.rest ++ take 1 ahead.more) (limit_reached bytes f past.3) (some_next f.rest ahead.more some) in
-    let there : bytes ++ take 1 ahead.more ≡ f.front ++ (f.byte ∷ (f.rest ++ take 1 ahead.more)) = ap (λ l. l ++ take 1 ahead.more) f.whole ∙ append_assoc f.front (f.byte ∷ f.rest) (take 1 ahead.more) in
+    let there : bytes ++ take 1 ahead.more ≡ f.front ++ (f.byte ∷ (f.rest ++ take 1 ahead.more)) = ap (λ l. l ++ take 1 ahead.more) f.whole
+    ∙ append_assoc f.front (f.byte ∷ f.rest) (take 1 ahead.more) in
     absurd (omega (arith, over, subst (λ (l : List ℕ). text_length l ≤ 2 ^ 24) there ahead.within))
 
 -- white space leads nowhere
@@ -104,7 +115,13 @@ white_reaches (x ∷ xs) e =
     let none : counted 0 x ≡ 0 = ap (λ b. cond b 0 1) p.0 in
     let same : step fresh_state x ≡ Some fresh_state = rw (p.0) in (
       refl,
-      (fresh_state, same, inr (subst (λ k. k < 2 ^ 24) (sym none) (omega arith)), subst (λ (k : ℕ). Reaches fresh_state k xs fresh_state 0) (sym none) (white_reaches xs p.1)),
+      (
+        fresh_state,
+        same,
+        inr (subst (λ k. k < 2 ^ 24) (sym none) (omega arith)),
+        subst (λ (k : ℕ). Reaches fresh_state k xs fresh_state 0) (sym none)
+            (white_reaches xs p.1),
+      ),
     )
 
 failed_dark : (bytes : List ℕ) → Fails fresh_state 0 bytes → each is_white bytes ≡ false

@@ -57,7 +57,8 @@ pub run_step : (s n : ReaderState) (x : ℕ) (xs : List ℕ) → step s x ≡ So
 run_step s n x xs e = ap (option_and_then (λ (m : ReaderState). run m xs)) e
 
 -- a byte that does not go on with a token settles it
-run_settled : (s n : NestState) (u : Unfinished) (x : ℕ) (xs : List ℕ) → goes_on u x ≡ false → settled s u ≡ Some n → run (amid s u) (x ∷ xs) ≡ run (between n) (x ∷ xs)
+run_settled : (s n : NestState) (u : Unfinished) (x : ℕ) (xs : List ℕ) → goes_on u x ≡ false → settled s u ≡ Some n
+    → run (amid s u) (x ∷ xs) ≡ run (between n) (x ∷ xs)
 run_settled s n u x xs e f =
     let same : step (amid s u) x ≡ step (between n) x = rw (e, f) in
     ap (option_and_then (λ (m : ReaderState). run m xs)) same
@@ -87,19 +88,23 @@ letter_is_not_single x e = grind (arith, nat_tests)
 letter_begins : (x : ℕ) → is_ascii_lowercase x ≡ true → first_byte x ≡ Some (in_name (x ∷ []))
 letter_begins x e = grind (arith, nat_tests)
 
-step_begins : (s : NestState) (x : ℕ) (u : Unfinished) → may_begin s ≡ true → is_white x ≡ false → single x ≡ None → first_byte x ≡ Some u → step (between s) x ≡ Some (amid s u)
+step_begins : (s : NestState) (x : ℕ) (u : Unfinished) → may_begin s ≡ true → is_white x ≡ false → single x ≡ None → first_byte x ≡ Some u
+    → step (between s) x ≡ Some (amid s u)
 step_begins s x u m w e f = rw (w, e, m, f)
 
-step_digit : (s : NestState) (minus : Bool) (z : ℤ) (d : ℕ) → is_ascii_digit d ≡ true → fits (with_digit minus z d) ≡ true → step (amid s (in_number minus z)) d ≡ Some (amid s (in_number minus (with_digit minus z d)))
+step_digit : (s : NestState) (minus : Bool) (z : ℤ) (d : ℕ) → is_ascii_digit d ≡ true → fits (with_digit minus z d) ≡ true
+    → step (amid s (in_number minus z)) d ≡ Some (amid s (in_number minus (with_digit minus z d)))
 step_digit s minus z d e f = rw (e, f)
 
-step_name : (s : NestState) (cs : List ℕ) (x : ℕ) → is_name_character x ≡ true → length cs < 255 → step (amid s (in_name cs)) x ≡ Some (amid s (in_name (cs ++ x ∷ [])))
+step_name : (s : NestState) (cs : List ℕ) (x : ℕ) → is_name_character x ≡ true → length cs < 255
+    → step (amid s (in_name cs)) x ≡ Some (amid s (in_name (cs ++ x ∷ [])))
 step_name s cs x e h = let l = lt-ltb (length cs) 255 h in rw (e, l)
 
 pub step_minus : (s : NestState) (d : ℕ) → is_ascii_digit d ≡ true → step (amid s in_minus) d ≡ Some (amid s (in_number true (with_digit true (pos 0) d)))
 step_minus s d e = rw e
 
-run_on_digits : (s : NestState) (minus : Bool) (z : ℤ) (n : ℕ) (ds rest : List ℕ) → z ≡ on_side minus n → each is_ascii_digit ds ≡ true → fits (value_after minus z ds) ≡ true → run (amid s (in_number minus z)) (ds ++ rest) ≡ run (amid s (in_number minus (value_after minus z ds))) rest
+run_on_digits : (s : NestState) (minus : Bool) (z : ℤ) (n : ℕ) (ds rest : List ℕ) → z ≡ on_side minus n → each is_ascii_digit ds ≡ true
+    → fits (value_after minus z ds) ≡ true → run (amid s (in_number minus z)) (ds ++ rest) ≡ run (amid s (in_number minus (value_after minus z ds))) rest
 run_on_digits s minus z n [] rest side e f = refl
 run_on_digits s minus z n (d ∷ ds) rest side e f =
     let p = and_parts (is_ascii_digit d) (each is_ascii_digit ds) e in
@@ -108,7 +113,8 @@ run_on_digits s minus z n (d ∷ ds) rest side e f =
     (step_digit s minus z d p.0 (fits_front minus (with_digit minus z d) (10 * n + (d - 48)) ds next f))
     ∙ run_on_digits s minus (with_digit minus z d) (10 * n + (d - 48)) ds rest next p.1 f
 
-run_on_name : (s : NestState) (cs more rest : List ℕ) → list_all is_name_character more ≡ true → length cs + length more ≤ 255 → run (amid s (in_name cs)) (more ++ rest) ≡ run (amid s (in_name (cs ++ more))) rest
+run_on_name : (s : NestState) (cs more rest : List ℕ) → list_all is_name_character more ≡ true → length cs + length more ≤ 255
+    → run (amid s (in_name cs)) (more ++ rest) ≡ run (amid s (in_name (cs ++ more))) rest
 run_on_name s cs [] rest e h = ap (λ c. run (amid s (in_name c)) rest) (sym (append-nil cs))
 run_on_name s cs (x ∷ more) rest e h =
     let p = and_parts (is_name_character x) (list_all is_name_character more) e in
@@ -131,11 +137,13 @@ abbrev pub AreWithin : List Token → Type 0
 AreWithin [] = Unit {0}
 AreWithin (token ∷ tokens) = IsWithin token × AreWithin tokens
 
-run_single : (token : Token) (x : ℕ) (s n : NestState) (spelling rest : List ℕ) → spelling ≡ x ∷ [] → step (between s) x ≡ seated (take_token s token) → take_token s token ≡ Some n → run (between s) (spelling ++ rest) ≡ run (between n) rest
+run_single : (token : Token) (x : ℕ) (s n : NestState) (spelling rest : List ℕ) → spelling ≡ x ∷ [] → step (between s) x ≡ seated (take_token s token)
+    → take_token s token ≡ Some n → run (between s) (spelling ++ rest) ≡ run (between n) rest
 run_single token x s n spelling rest e f t =
     ap (λ b. run (between s) (b ++ rest)) e ∙ run_step (between s) (between n) x rest (f ∙ ap seated t)
 
-run_name : (cs : List ℕ) (s n : NestState) (rest : List ℕ) → length cs ≤ 255 → is_plain_atom cs ≡ true → IsApart (name cs) rest → take_token s (name cs) ≡ Some n → run (between s) (cs ++ rest) ≡ run (between n) rest
+run_name : (cs : List ℕ) (s n : NestState) (rest : List ℕ) → length cs ≤ 255 → is_plain_atom cs ≡ true → IsApart (name cs) rest
+    → take_token s (name cs) ≡ Some n → run (between s) (cs ++ rest) ≡ run (between n) rest
 run_name [] s n rest h e a t = cc
 run_name (c ∷ cs) s n [] h e a t = absurd a
 run_name (c ∷ cs) s n (x ∷ rest) h e a t =
@@ -147,7 +155,9 @@ run_name (c ∷ cs) s n (x ∷ rest) h e a t =
     ∙ run_settled s n (in_name (c ∷ cs)) x rest a (ap Some m.1)
 
 -- the digits of a number, from the first on, up to the byte behind them
-run_digits : (s n : NestState) (u : Unfinished) (minus : Bool) (z : ℤ) (d : ℕ) (ds rest : List ℕ) → (step (amid s u) d ≡ Some (amid s (in_number minus (with_digit minus (pos 0) d)))) → fits z ≡ true → Decimal minus z (d ∷ ds) → IsApart (number z) rest → complete s.frames (integer z) ≡ n → run (amid s u) ((d ∷ ds) ++ rest) ≡ run (between n) rest
+run_digits : (s n : NestState) (u : Unfinished) (minus : Bool) (z : ℤ) (d : ℕ) (ds rest : List ℕ)
+    → (step (amid s u) d ≡ Some (amid s (in_number minus (with_digit minus (pos 0) d)))) → fits z ≡ true → Decimal minus z (d ∷ ds) → IsApart (number z) rest
+    → complete s.frames (integer z) ≡ n → run (amid s u) ((d ∷ ds) ++ rest) ≡ run (between n) rest
 run_digits s n u minus z d ds [] b f e a m = absurd a
 run_digits s n u minus z d ds (x ∷ rest) b f e a m =
     let p = and_parts (is_ascii_digit d) (each is_ascii_digit ds) e.decimal in
@@ -156,7 +166,8 @@ run_digits s n u minus z d ds (x ∷ rest) b f e a m =
     ∙ run_on_digits s minus (with_digit minus (pos 0) d) (d - 48) ds (x ∷ rest) first p.1 (ap fits (sym e.value) ∙ f)
     ∙ run_settled s n (in_number minus (value_after minus (pos 0) (d ∷ ds))) x rest a (ap Some (ap (λ y. complete s.frames (integer y)) (sym e.value) ∙ m))
 
-run_number : (z : ℤ) (s n : NestState) (spelling rest : List ℕ) → fits z ≡ true → Spelled (number z) spelling → IsApart (number z) rest → take_token s (number z) ≡ Some n → run (between s) (spelling ++ rest) ≡ run (between n) rest
+run_number : (z : ℤ) (s n : NestState) (spelling rest : List ℕ) → fits z ≡ true → Spelled (number z) spelling → IsApart (number z) rest
+    → take_token s (number z) ≡ Some n → run (between s) (spelling ++ rest) ≡ run (between n) rest
 run_number z s n [] rest f (inl e) a t = let h = e.some in absurd (omega arith)
 run_number z s n (d ∷ ds) rest f (inl e) a t =
     let m = cond_some (may_begin s) (complete s.frames (integer z)) n t in
@@ -173,7 +184,8 @@ run_number z s n spelling rest f (inr (d ∷ ds, w, e)) a t =
     ∙ run_digits s n in_minus true z d ds rest (step_minus s d p.0) f e a m.1
 
 -- the machine takes a token where it takes the token's bytes
-run_token : (token : Token) (s n : NestState) (spelling rest : List ℕ) → IsWithin token → Spelled token spelling → IsApart token rest → take_token s token ≡ Some n → run (between s) (spelling ++ rest) ≡ run (between n) rest
+run_token : (token : Token) (s n : NestState) (spelling rest : List ℕ) → IsWithin token → Spelled token spelling → IsApart token rest
+    → take_token s token ≡ Some n → run (between s) (spelling ++ rest) ≡ run (between n) rest
 run_token (opening Tuple) s n spelling rest w e a t = run_single (opening Tuple) 123 s n spelling rest e refl t
 run_token (opening Square) s n spelling rest w e a t = run_single (opening Square) 91 s n spelling rest e refl t
 run_token (closing Tuple) s n spelling rest w e a t = run_single (closing Tuple) 125 s n spelling rest e refl t
@@ -184,13 +196,15 @@ run_token (name cs) s n spelling rest w e a t =
     ap (λ b. run (between s) (b ++ rest)) e.0 ∙ run_name cs s n rest w (ap is_plain_atom (sym e.0) ∙ e.1) a t
 run_token (number z) s n spelling rest w e a t = run_number z s n spelling rest w e a t
 
-pub run_fronts : (token : Token) (s n : NestState) (bytes rest : List ℕ) → IsWithin token → Fronts token bytes rest → take_token s token ≡ Some n → run (between s) bytes ≡ run (between n) rest
+pub run_fronts : (token : Token) (s n : NestState) (bytes rest : List ℕ) → IsWithin token → Fronts token bytes rest → take_token s token ≡ Some n
+    → run (between s) bytes ≡ run (between n) rest
 run_fronts token s n bytes rest w f t =
     ap (run (between s)) f.whole ∙ run_blanks s f.blanks (f.spelling ++ rest) f.blank
     ∙ run_token token s n f.spelling rest w f.spelled f.apart t
 
 -- the machine takes tokens where it takes bytes that spell them
-pub run_tokens : (ts : List Token) (bytes rest : List ℕ) (s n : NestState) → AreWithin ts → Spells ts bytes rest → take_tokens s ts ≡ Some n → run (between s) bytes ≡ run (between n) rest
+pub run_tokens : (ts : List Token) (bytes rest : List ℕ) (s n : NestState) → AreWithin ts → Spells ts bytes rest → take_tokens s ts ≡ Some n
+    → run (between s) bytes ≡ run (between n) rest
 run_tokens [] bytes rest s n w e t =
     let same : s ≡ n = cc in ap (λ m. run (between m) bytes) same ∙ ap (run (between n)) e
 run_tokens (token ∷ ts) bytes rest s n w (after, f, e) t =

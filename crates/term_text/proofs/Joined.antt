@@ -4,7 +4,8 @@ use Rattle.std.specs.List.{join_by}
 
 -- ---- a comma behind each part but the last
 
-joined_behind : {X : Type 0} (f : X → List ℕ) (sep : List ℕ) (xs : List X) (y : X) → flat_map (λ x. sep ++ f x) (xs ++ y ∷ []) ≡ sep ++ join_by f sep (xs ++ y ∷ [])
+joined_behind : {X : Type 0} (f : X → List ℕ) (sep : List ℕ) (xs : List X) (y : X)
+    → flat_map (λ x. sep ++ f x) (xs ++ y ∷ []) ≡ sep ++ join_by f sep (xs ++ y ∷ [])
 joined_behind f sep [] y = append_assoc sep (f y) []
 joined_behind f sep (x ∷ xs) y = append_assoc sep (f x) (flat_map (λ z. sep ++ f z) (xs ++ y ∷ []))
 
@@ -30,7 +31,8 @@ left_of-first : {X : Type 0} (f : X → List ℕ) (xs : List X) (x : X) → slic
 left_of-first f [] x e = cc
 left_of-first f (y ∷ xs) x e = let same : y ≡ x = cc in ap (λ z. f z ++ flat_map (λ w. 44 ∷ f w) xs) same
 
-left_of-next : {X : Type 0} (f : X → List ℕ) (n : ℕ) (xs : List X) (x : X) → slice_get xs (suc n) ≡ Some x → left_of f (suc n) xs ≡ 44 ∷ (f x ++ left_of f (suc (suc n)) xs)
+left_of-next : {X : Type 0} (f : X → List ℕ) (n : ℕ) (xs : List X) (x : X) → slice_get xs (suc n) ≡ Some x
+    → left_of f (suc n) xs ≡ 44 ∷ (f x ++ left_of f (suc (suc n)) xs)
 left_of-next f n xs x e = ap (flat_map (λ w. 44 ∷ f w)) (drop_at (suc n) xs x e)
 
 none_behind : {X : Type 0} (n : ℕ) → drop {A = X} n [] ≡ []
@@ -49,13 +51,15 @@ left_of-end f zero (x ∷ xs) h = absurd (omega arith)
 left_of-end f (suc n) xs h = ap (flat_map (λ x. 44 ∷ f x)) (past_end (suc n) xs h)
 
 -- a part is printed: the first one, and with a comma each one after it
-pub first_part : {X : Type 0} (f : X → List ℕ) (out mid new : List ℕ) (n : ℕ) (xs : List X) (x : X) → n ≡ 0 → slice_get xs n ≡ Some x → mid ≡ out → new ≡ mid ++ f x → new ++ left_of f (n + 1) xs ≡ out ++ left_of f n xs
+pub first_part : {X : Type 0} (f : X → List ℕ) (out mid new : List ℕ) (n : ℕ) (xs : List X) (x : X) → n ≡ 0 → slice_get xs n ≡ Some x → mid ≡ out
+    → new ≡ mid ++ f x → new ++ left_of f (n + 1) xs ≡ out ++ left_of f n xs
 first_part f out mid new zero xs x z e m h =
     ap (λ l. l ++ left_of f 1 xs) (h ∙ ap (λ l. l ++ f x) m) ∙ append_assoc out (f x) (left_of f 1 xs)
     ∙ ap (λ l. out ++ l) (sym (left_of-first f xs x e))
 first_part f out mid new (suc n) xs x z e m h = absurd (omega arith)
 
-pub next_part : {X : Type 0} (f : X → List ℕ) (out mid new : List ℕ) (n : ℕ) (xs : List X) (x : X) → 0 < n → slice_get xs n ≡ Some x → mid ≡ out ++ 44 ∷ [] → new ≡ mid ++ f x → new ++ left_of f (n + 1) xs ≡ out ++ left_of f n xs
+pub next_part : {X : Type 0} (f : X → List ℕ) (out mid new : List ℕ) (n : ℕ) (xs : List X) (x : X) → 0 < n → slice_get xs n ≡ Some x → mid ≡ out ++ 44 ∷ []
+    → new ≡ mid ++ f x → new ++ left_of f (n + 1) xs ≡ out ++ left_of f n xs
 next_part f out mid new zero xs x z e m h = absurd (omega arith)
 next_part f out mid new (suc n) xs x z e m h =
     let more : suc n + 1 ≡ suc (suc n) = omega arith in

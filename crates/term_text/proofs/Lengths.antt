@@ -30,7 +30,8 @@ text_length-append (x ∷ xs) ys =
 pub text_length-more : (xs ys : List ℕ) → 0 < text_length xs → text_length (xs ++ ys) ≡ text_length xs + length ys
 text_length-more [] ys h = absurd (omega arith)
 text_length-more (x ∷ xs) ys h =
-    by_test (is_white x) (λ b. 0 < cond b (text_length xs) (length (x ∷ xs)) → cond b (text_length (xs ++ ys)) (length (x ∷ (xs ++ ys))) ≡ cond b (text_length xs) (length (x ∷ xs)) + length ys)
+    by_test (is_white x) (λ b. 0 < cond b (text_length xs) (length (x ∷ xs))
+    → cond b (text_length (xs ++ ys)) (length (x ∷ (xs ++ ys))) ≡ cond b (text_length xs) (length (x ∷ xs)) + length ys)
     (λ _ k. text_length-more xs ys k) (λ _ _. omega (arith, length-append xs ys)) h
 
 -- to count one more byte

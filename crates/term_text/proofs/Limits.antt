@@ -13,7 +13,8 @@ built-within parts t few shallow =
     ∙ ap (λ b. cond b (Ok t) (Err Depth)) (le-leb (depth t) 256 shallow)
 
 -- a term over these parts is refused for want of memory alone
-pub built_or_memory : (parts : List TermValue) (t : TermValue) (r : Result TermValue TermFault) → parts_depth t ≡ parts_depth (chain parts nil) → length parts ≤ 2 ^ 24 → deepest parts < 256 → r ≡ built (length parts) t → IfErr r (λ fault. fault ≡ Memory)
+pub built_or_memory : (parts : List TermValue) (t : TermValue) (r : Result TermValue TermFault) → parts_depth t ≡ parts_depth (chain parts nil)
+    → length parts ≤ 2 ^ 24 → deepest parts < 256 → r ≡ built (length parts) t → IfErr r (λ fault. fault ≡ Memory)
 built_or_memory parts t r same few shallow e =
     let levels : parts_depth t ≡ deepest parts = same ∙ parts_depth-chain parts in
     subst (λ (q : Result TermValue TermFault). IfErr q (λ fault. fault ≡ Memory)) (sym (e ∙ built-within (length parts) t (omega arith) (omega arith))) tt

@@ -56,7 +56,8 @@ read_tokens-wants fs after g e = cc
 read_tokens-wants fs (whole t) g e = cc
 read_tokens-wants fs (stopped t) g e = cc
 
-read_tokens-complete : (fs : List Frame) (t : TermValue) → read_tokens (complete fs t).frames (complete fs t).place ≡ (open_tokens fs ++ part_comma fs) ++ tokens_of t
+read_tokens-complete : (fs : List Frame) (t : TermValue) → read_tokens (complete fs t).frames (complete fs t).place ≡
+    (open_tokens fs ++ part_comma fs) ++ tokens_of t
 read_tokens-complete [] t = refl
 read_tokens-complete (f ∷ fs) t =
     ap (λ l. (open_tokens fs ++ part_comma fs) ++ (opening f.bracket ∷ l)) (parts_tokens-push f.parts t)
@@ -65,7 +66,8 @@ read_tokens-complete (f ∷ fs) t =
     regroup : (a b c d : List Token) → a ++ (b ++ (c ++ d)) ≡ ((a ++ b) ++ c) ++ d
     regroup a b c d = simp append_assoc
 
-read_tokens-begun : (fs : List Frame) (p : NestPlace) (t : TermValue) (token : Token) → ValidPlace fs p → wants p ≡ true → tokens_of t ≡ token ∷ [] → read_tokens (complete fs t).frames (complete fs t).place ≡ read_tokens fs p ++ token ∷ []
+read_tokens-begun : (fs : List Frame) (p : NestPlace) (t : TermValue) (token : Token) → ValidPlace fs p → wants p ≡ true → tokens_of t ≡ token ∷ []
+    → read_tokens (complete fs t).frames (complete fs t).place ≡ read_tokens fs p ++ token ∷ []
 read_tokens-begun fs p t token g w e =
     read_tokens-complete fs t ∙ ap (λ l. (open_tokens fs ++ part_comma fs) ++ l) e
     ∙ ap (λ l. l ++ token ∷ []) (sym (read_tokens-wants fs p g w))
@@ -95,7 +97,8 @@ open_tokens-close k (f ∷ fs) n e =
     ∙ ap (λ j. lead ++ (opening f.bracket ∷ (parts_tokens f.parts ++ closing j ∷ []))) (same_bracket-true f.bracket k h.0)
     ∙ sym (append_assoc lead (opening f.bracket ∷ parts_tokens f.parts) (closing k ∷ []))
 
-read_tokens-comma : (fs : List Frame) (p : NestPlace) (n : NestState) → ValidPlace fs p → after_comma fs p ≡ Some n → read_tokens n.frames n.place ≡ read_tokens fs p ++ comma ∷ []
+read_tokens-comma : (fs : List Frame) (p : NestPlace) (n : NestState) → ValidPlace fs p → after_comma fs p ≡ Some n
+    → read_tokens n.frames n.place ≡ read_tokens fs p ++ comma ∷ []
 read_tokens-comma fs want n g e = cc
 read_tokens-comma fs opened n g e = cc
 read_tokens-comma fs after n g e =
@@ -112,7 +115,8 @@ read_tokens-comma fs after n g e =
 read_tokens-comma fs (whole t) n g e = cc
 read_tokens-comma fs (stopped t) n g e = cc
 
-read_tokens-stop : (fs : List Frame) (p : NestPlace) (n : NestState) → after_stop fs p ≡ Some n → read_tokens n.frames n.place ≡ read_tokens fs p ++ full_stop ∷ []
+read_tokens-stop : (fs : List Frame) (p : NestPlace) (n : NestState) → after_stop fs p ≡ Some n
+    → read_tokens n.frames n.place ≡ read_tokens fs p ++ full_stop ∷ []
 read_tokens-stop fs want n e = cc
 read_tokens-stop fs opened n e = cc
 read_tokens-stop fs after n e = cc
@@ -124,7 +128,8 @@ wants-may_begin : (s : NestState) → may_begin s ≡ true → wants s.place ≡
 wants-may_begin s e = (and_parts (wants s.place) (nat_lt (length s.frames) 256) e).0
 
 -- a token that a nest takes is the one more that it has read
-pub read_tokens-take_token : (s n : NestState) (token : Token) → ValidPlace s.frames s.place → take_token s token ≡ Some n → read_tokens n.frames n.place ≡ read_tokens s.frames s.place ++ token ∷ []
+pub read_tokens-take_token : (s n : NestState) (token : Token) → ValidPlace s.frames s.place → take_token s token ≡ Some n
+    → read_tokens n.frames n.place ≡ read_tokens s.frames s.place ++ token ∷ []
 read_tokens-take_token s n (opening k) g e =
     let h = cond_some (may_begin s) (record { frames = record { bracket = k; parts = [] } ∷ s.frames; place = opened }) n e in
     ap (λ (m : NestState). read_tokens m.frames m.place) (sym h.1)
@@ -146,7 +151,8 @@ read_tokens-take_token s n (number z) g e =
 
 -- ---- a valid nest stays valid
 
-all_push : (levels : ℕ) (ts : List TermValue) (t : TermValue) → AllByRecursion (IsPart levels) ts → IsPart levels t → AllByRecursion (IsPart levels) (ts ++ t ∷ [])
+all_push : (levels : ℕ) (ts : List TermValue) (t : TermValue) → AllByRecursion (IsPart levels) ts → IsPart levels t
+    → AllByRecursion (IsPart levels) (ts ++ t ∷ [])
 all_push levels [] t all part = (part, tt)
 all_push levels (u ∷ ts) t all part = (all.0, all_push levels ts t all.1 part)
 
@@ -160,7 +166,8 @@ deepest-parts levels (t ∷ ts) h all =
     let first = all.0.shallow in let rest = deepest-parts levels ts h all.1 in omega arith
 
 -- a bracketed term of parts that fit is a part one level further out
-pub IsPart-bracketed : (k : Bracket) (levels : ℕ) (ts : List TermValue) → suc levels ≤ 256 → AllByRecursion (IsPart (suc levels)) ts → IsPart levels (bracketed k ts)
+pub IsPart-bracketed : (k : Bracket) (levels : ℕ) (ts : List TermValue) → suc levels ≤ 256 → AllByRecursion (IsPart (suc levels)) ts
+    → IsPart levels (bracketed k ts)
 IsPart-bracketed Tuple levels ts h all = record {
   built = (IsProper-chain ts, IsBuilt-chain (suc levels) ts all);
   shallow = omega (arith, parts_depth-chain ts, deepest-parts (suc levels) ts h all);

@@ -66,7 +66,8 @@ pub printed_atom-quoted : (bs : List ℕ) → IsUtf8 bs → is_unquoted bs ≡ f
 printed_atom-quoted bs u e = ap (λ b. cond b (chars bs) (quoted_atom (chars bs))) (is_unquoted-chars bs u ∙ e)
 
 -- a test of the first byte and of those that follow
-pub is_plain_atom-from_first : (bs : List ℕ) → 1 ≤ length bs → is_ascii_lowercase (get_or bs 0 0) ≡ true → is_plain_atom bs ≡ list_all is_name_character (drop 1 bs)
+pub is_plain_atom-from_first : (bs : List ℕ) → 1 ≤ length bs → is_ascii_lowercase (get_or bs 0 0) ≡ true
+    → is_plain_atom bs ≡ list_all is_name_character (drop 1 bs)
 is_plain_atom-from_first [] h t = absurd (omega arith)
 is_plain_atom-from_first (b ∷ bs) h t = ap (λ a. a && list_all is_name_character bs) t
 

@@ -112,15 +112,20 @@ number-front x (suc (suc (suc (suc (suc (suc (suc (suc (suc used))))))))) small 
 
 -- ---- parts of a bit string
 
-pub segment-short : (x used : ℕ) → x < 256 → 1 ≤ used → used < 8 → printed_segment (take used (byte_bits x)) ≡ (decimal (x / 2 ^ (8 - used)) ++ 58 ∷ []) ++ decimal used
+pub segment-short : (x used : ℕ) → x < 256 → 1 ≤ used → used < 8 → printed_segment (take used (byte_bits x)) ≡
+    (decimal (x / 2 ^ (8 - used)) ++ 58 ∷ []) ++ decimal used
 segment-short x zero small some most = absurd (omega arith)
 segment-short x (suc zero) small some most = ap (λ n. (decimal n ++ 58 ∷ []) ++ decimal 1) (number-front x 1 small (omega arith) (omega arith))
 segment-short x (suc (suc zero)) small some most = ap (λ n. (decimal n ++ 58 ∷ []) ++ decimal 2) (number-front x 2 small (omega arith) (omega arith))
 segment-short x (suc (suc (suc zero))) small some most = ap (λ n. (decimal n ++ 58 ∷ []) ++ decimal 3) (number-front x 3 small (omega arith) (omega arith))
-segment-short x (suc (suc (suc (suc zero)))) small some most = ap (λ n. (decimal n ++ 58 ∷ []) ++ decimal 4) (number-front x 4 small (omega arith) (omega arith))
-segment-short x (suc (suc (suc (suc (suc zero))))) small some most = ap (λ n. (decimal n ++ 58 ∷ []) ++ decimal 5) (number-front x 5 small (omega arith) (omega arith))
-segment-short x (suc (suc (suc (suc (suc (suc zero)))))) small some most = ap (λ n. (decimal n ++ 58 ∷ []) ++ decimal 6) (number-front x 6 small (omega arith) (omega arith))
-segment-short x (suc (suc (suc (suc (suc (suc (suc zero))))))) small some most = ap (λ n. (decimal n ++ 58 ∷ []) ++ decimal 7) (number-front x 7 small (omega arith) (omega arith))
+segment-short x (suc (suc (suc (suc zero)))) small some most = ap (λ n. (decimal n ++ 58 ∷ []) ++ decimal 4)
+    (number-front x 4 small (omega arith) (omega arith))
+segment-short x (suc (suc (suc (suc (suc zero))))) small some most = ap (λ n. (decimal n ++ 58 ∷ []) ++ decimal 5)
+    (number-front x 5 small (omega arith) (omega arith))
+segment-short x (suc (suc (suc (suc (suc (suc zero)))))) small some most =
+    ap (λ n. (decimal n ++ 58 ∷ []) ++ decimal 6) (number-front x 6 small (omega arith) (omega arith))
+segment-short x (suc (suc (suc (suc (suc (suc (suc zero))))))) small some most =
+    ap (λ n. (decimal n ++ 58 ∷ []) ++ decimal 7) (number-front x 7 small (omega arith) (omega arith))
 segment-short x (suc (suc (suc (suc (suc (suc (suc (suc used)))))))) small some most = absurd (omega arith)
 
 -- all eight bits
@@ -146,20 +151,24 @@ octets-last x (suc (suc (suc (suc (suc (suc (suc zero))))))) some most = refl
 octets-last x (suc (suc (suc (suc (suc (suc (suc (suc zero)))))))) some most = refl
 octets-last x (suc (suc (suc (suc (suc (suc (suc (suc (suc used))))))))) some most = absurd (omega arith)
 
-octets-bytes : (whole : List ℕ) (last used : ℕ) → 1 ≤ used → used ≤ 8 → octets (bits_of (whole ++ last ∷ []) used) ≡ map byte_bits whole ++ take used (byte_bits last) ∷ []
+octets-bytes : (whole : List ℕ) (last used : ℕ) → 1 ≤ used → used ≤ 8 → octets (bits_of (whole ++ last ∷ []) used) ≡ map byte_bits whole ++ take used
+    (byte_bits last) ∷ []
 octets-bytes [] last used some most = octets-last last used some most
 octets-bytes (x ∷ []) last used some most = ap (λ l. byte_bits x ∷ l) (octets-last last used some most)
 octets-bytes (x ∷ y ∷ whole) last used some most = ap (λ l. byte_bits x ∷ l) (octets-bytes (y ∷ whole) last used some most)
 
 -- each byte but the last with a comma behind it
-segments-bytes : (whole : List ℕ) → AllByRecursion (λ x. x < 256) whole → flat_map (λ b. printed_segment b ++ 44 ∷ []) (map byte_bits whole) ≡ flat_map (λ x. decimal x ++ 44 ∷ []) whole
+segments-bytes : (whole : List ℕ) → AllByRecursion (λ x. x < 256) whole
+    → flat_map (λ b. printed_segment b ++ 44 ∷ []) (map byte_bits whole) ≡ flat_map (λ x. decimal x ++ 44 ∷ []) whole
 segments-bytes [] small = refl
 segments-bytes (x ∷ whole) small =
     ap (λ l. (l ++ 44 ∷ []) ++ flat_map (λ b. printed_segment b ++ 44 ∷ []) (map byte_bits whole)) (segment-byte x small.0)
     ∙ ap (λ l. (decimal x ++ 44 ∷ []) ++ l) (segments-bytes whole small.1)
 
 -- the bytes of a bit string: those in front of the last with a comma behind each, and the used bits of the last
-joined-bytes : (whole : List ℕ) (last used : ℕ) → AllByRecursion (λ x. x < 256) whole → 1 ≤ used → used ≤ 8 → join_by printed_segment (44 ∷ []) (octets (bits_of (whole ++ last ∷ []) used)) ≡ flat_map (λ x. decimal x ++ 44 ∷ []) whole ++ printed_segment (take used (byte_bits last))
+joined-bytes : (whole : List ℕ) (last used : ℕ) → AllByRecursion (λ x. x < 256) whole → 1 ≤ used → used ≤ 8
+    → join_by printed_segment (44 ∷ []) (octets (bits_of (whole ++ last ∷ []) used)) ≡ flat_map (λ x. decimal x ++ 44 ∷ []) whole ++ printed_segment
+    (take used (byte_bits last))
 joined-bytes whole last used small some most =
     ap (join_by printed_segment (44 ∷ [])) (octets-bytes whole last used some most)
     ∙ joined-last printed_segment (44 ∷ []) (map byte_bits whole) (take used (byte_bits last))
@@ -170,7 +179,9 @@ small_front [] last small = tt
 small_front (x ∷ whole) last small = (small 0, small_front whole last (λ i. small (suc i)))
 
 -- the same of all bytes
-pub printed-bytes : (bytes whole : List ℕ) (last used : ℕ) → bytes ≡ whole ++ last ∷ [] → ((i : ℕ) → get_or bytes i 0 < 256) → 1 ≤ used → used ≤ 8 → join_by printed_segment (44 ∷ []) (octets (bits_of bytes used)) ≡ flat_map (λ x. decimal x ++ 44 ∷ []) whole ++ printed_segment (take used (byte_bits last))
+pub printed-bytes : (bytes whole : List ℕ) (last used : ℕ) → bytes ≡ whole ++ last ∷ [] → ((i : ℕ) → get_or bytes i 0 < 256) → 1 ≤ used → used ≤ 8
+    → join_by printed_segment (44 ∷ []) (octets (bits_of bytes used)) ≡ flat_map (λ x. decimal x ++ 44 ∷ []) whole ++ printed_segment
+    (take used (byte_bits last))
 printed-bytes bytes whole last used e small some most =
     ap (λ l. join_by printed_segment (44 ∷ []) (octets (bits_of l used))) e
     ∙ joined-bytes whole last used (small_front whole last (λ i. subst (λ l. get_or l i 0 < 256) e (small i))) some most

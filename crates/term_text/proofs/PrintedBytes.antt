@@ -145,7 +145,11 @@ mutual
   term_not_low (tuple parts) = (omega arith, elements_not_low (codes "}") parts (omega arith, tt))
   term_not_low (mapping keys values) = map_not_low (printed_each keys) (printed_each values) (each_not_low keys) (each_not_low values)
   term_not_low nil = (omega arith, (omega arith, tt))
-  term_not_low (cons first rest) = (omega arith, NoneLow-append (printed first) (printed_after (codes "]") rest) (term_not_low first) (after_not_low (codes "]") rest (omega arith, tt)))
+  term_not_low (cons first rest) = (
+    omega arith,
+    NoneLow-append (printed first) (printed_after (codes "]") rest) (term_not_low first)
+        (after_not_low (codes "]") rest (omega arith, tt)),
+  )
   term_not_low (bits bs) = bits_not_low bs
 
   elements_not_low : (end : List ℕ) (v : TermValue) → NoneLow end → NoneLow (printed_elements end v)

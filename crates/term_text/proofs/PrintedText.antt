@@ -72,7 +72,8 @@ apart (name cs) (x ∷ rest) h = h
 apart (number z) [] h = absurd h
 apart (number z) (x ∷ rest) h = not_digit x h
 
-Spells-cons : (token : Token) (tokens : List Token) (spelling bytes rest : List ℕ) → Spelled token spelling → IsApart token bytes → Spells tokens bytes rest → Spells (token ∷ tokens) (spelling ++ bytes) rest
+Spells-cons : (token : Token) (tokens : List Token) (spelling bytes rest : List ℕ) → Spelled token spelling → IsApart token bytes → Spells tokens bytes rest
+    → Spells (token ∷ tokens) (spelling ++ bytes) rest
 Spells-cons token tokens spelling bytes rest s a h = (
   bytes,
   record { blanks = []; spelling = spelling; blank = refl; spelled = s; apart = a; whole = refl },
@@ -84,7 +85,8 @@ Spells-append [] us bytes mid rest e h = subst (λ b. Spells us b rest) (sym e) 
 Spells-append (token ∷ ts) us bytes mid rest (after, f, e) h = (after, f, Spells-append ts us after mid rest e h)
 
 -- one term and what follows it
-Spells-both : (ts us : List Token) (first after r rest : List ℕ) → Spells ts (first ++ (after ++ r)) (after ++ r) → Spells us (after ++ r) rest → Spells (ts ++ us) ((first ++ after) ++ r) rest
+Spells-both : (ts us : List Token) (first after r rest : List ℕ) → Spells ts (first ++ (after ++ r)) (after ++ r) → Spells us (after ++ r) rest
+    → Spells (ts ++ us) ((first ++ after) ++ r) rest
 Spells-both ts us first after r rest e h =
     subst (λ b. Spells (ts ++ us) b rest) (sym (append_assoc first after r)) (Spells-append ts us (first ++ (after ++ r)) (after ++ r) rest e h)
 
@@ -97,7 +99,8 @@ apart_after end (cons first rest) r p h = refl
 apart_after end other r p h = absurd p
 
 -- elements and their closing bracket are spelled
-closed : (token : Token) (ts : List Token) (x : ℕ) (bytes rest : List ℕ) → Spells ts bytes (x ∷ rest) → Spelled token (x ∷ []) → IsApart token rest → Spells (ts ++ token ∷ []) bytes rest
+closed : (token : Token) (ts : List Token) (x : ℕ) (bytes rest : List ℕ) → Spells ts bytes (x ∷ rest) → Spelled token (x ∷ []) → IsApart token rest
+    → Spells (ts ++ token ∷ []) bytes rest
 closed token ts x bytes rest e s a = Spells-push ts token bytes [] (x ∷ []) rest e refl s a
 
 mutual
@@ -113,13 +116,15 @@ mutual
       Spells-cons (opening Square) (closing Square ∷ []) (91 ∷ []) (93 ∷ r) r refl tt
       (Spells-cons (closing Square) [] (93 ∷ []) r r refl tt refl)
   spelled (cons first rest) r b p a =
-      Spells-cons (opening Square) (tokens_of first ++ (tokens_after rest ++ closing Square ∷ [])) (91 ∷ []) ((printed first ++ printed_after (93 ∷ []) rest) ++ r) r refl tt
+      Spells-cons (opening Square) (tokens_of first ++ (tokens_after rest ++ closing Square ∷ [])) (91 ∷ [])
+      ((printed first ++ printed_after (93 ∷ []) rest) ++ r) r refl tt
       (Spells-both (tokens_of first) (tokens_after rest ++ closing Square ∷ []) (printed first) (printed_after (93 ∷ []) rest) r r
       (spelled first (printed_after (93 ∷ []) rest ++ r) b.0 p.0 (apart_after (93 ∷ []) rest r b.1 refl))
       (closed (closing Square) (tokens_after rest) 93 (printed_after (93 ∷ []) rest ++ r) r (after_spelled (93 ∷ []) rest r b.1 b.2 p.1 refl) refl tt))
   spelled (bits bs) r b p a = absurd b
 
-  elements_spelled : (end : List ℕ) (v : TermValue) (r : List ℕ) → IsProper v → IsBuilt v → IsPlain v → IsApartFromTerms (end ++ r) → Spells (tokens_of_elements v) (printed_elements end v ++ r) (end ++ r)
+  elements_spelled : (end : List ℕ) (v : TermValue) (r : List ℕ) → IsProper v → IsBuilt v → IsPlain v → IsApartFromTerms (end ++ r)
+      → Spells (tokens_of_elements v) (printed_elements end v ++ r) (end ++ r)
   elements_spelled end nil r q b p a = refl
   elements_spelled end (cons first rest) r q b p a =
       Spells-both (tokens_of first) (tokens_after rest) (printed first) (printed_after end rest) r (end ++ r)
@@ -127,7 +132,8 @@ mutual
       (after_spelled end rest r b.1 b.2 p.1 a)
   elements_spelled end other r q b p a = absurd q
 
-  after_spelled : (end : List ℕ) (v : TermValue) (r : List ℕ) → IsProper v → IsBuilt v → IsPlain v → IsApartFromTerms (end ++ r) → Spells (tokens_after v) (printed_after end v ++ r) (end ++ r)
+  after_spelled : (end : List ℕ) (v : TermValue) (r : List ℕ) → IsProper v → IsBuilt v → IsPlain v → IsApartFromTerms (end ++ r)
+      → Spells (tokens_after v) (printed_after end v ++ r) (end ++ r)
   after_spelled end nil r q b p a = refl
   after_spelled end (cons first rest) r q b p a =
       Spells-cons comma (tokens_of first ++ tokens_after rest) (44 ∷ []) ((printed first ++ printed_after end rest) ++ r) (end ++ r) refl tt

@@ -16,7 +16,8 @@ use Rattle.term_text.specs.Token.{is_white}
 use Rattle.term_text.specs.Reaches.{counted, IsInTime, Reaches, Fails, IsOrderly}
 
 -- one byte more
-pub Reaches-push : (s : ReaderState) (c : ℕ) (xs : List ℕ) (m : ReaderState) (d x : ℕ) (n : ReaderState) → Reaches s c xs m d → is_stopped m.nest.place ≡ false → step m x ≡ Some n → IsInTime n (counted d x) → Reaches s c (xs ++ x ∷ []) n (counted d x)
+pub Reaches-push : (s : ReaderState) (c : ℕ) (xs : List ℕ) (m : ReaderState) (d x : ℕ) (n : ReaderState) → Reaches s c xs m d → is_stopped m.nest.place ≡ false
+    → step m x ≡ Some n → IsInTime n (counted d x) → Reaches s c (xs ++ x ∷ []) n (counted d x)
 Reaches-push s c [] m d x n r moving e t = (
   subst (λ (q : ReaderState). is_stopped q.nest.place ≡ false) r.0 moving,
   (n, subst (λ (q : ReaderState). step q x ≡ Some n) r.0 e, subst (λ (k : ℕ). IsInTime n (counted k x)) r.1 t, (refl, ap (λ (k : ℕ). counted k x) r.1)),
@@ -26,11 +27,14 @@ Reaches-push s c (y ∷ xs) m d x n r moving e t =
 
 -- each byte of some bytes has a place
 pub at_byte : (bytes : List ℕ) (i : ℕ) → i < length bytes → bytes ≡ take i bytes ++ (get_or bytes i 0 ∷ drop (i + 1) bytes)
-at_byte bytes i h = sym (take-append-drop i bytes) ∙ ap (λ zs. take i bytes ++ zs) (drop-cons bytes i 0 h ∙ ap (λ n. get_or bytes i 0 ∷ drop n bytes) (let e : suc i ≡ i + 1 = omega arith in e))
+at_byte bytes i h = sym (take-append-drop i bytes) ∙ ap (λ zs. take i bytes ++ zs)
+    (drop-cons bytes i 0 h ∙ ap (λ n. get_or bytes i 0 ∷ drop n bytes) (let e : suc i ≡ i + 1 = omega arith in e))
 
 -- what leads to a byte that cannot stand there fails
-pub Fails-at : (s : ReaderState) (c : ℕ) (bytes : List ℕ) (i : ℕ) (m : ReaderState) (d : ℕ) → i < length bytes → Reaches s c (take i bytes) m d → is_stopped m.nest.place ≡ false
-    → (step m (get_or bytes i 0) ≡ None) ⊎ ((n : ReaderState) × (step m (get_or bytes i 0) ≡ Some n) × (is_stopped n.nest.place ≡ false) × (2 ^ 24 ≤ counted d (get_or bytes i 0))) → Fails s c bytes
+pub Fails-at : (s : ReaderState) (c : ℕ) (bytes : List ℕ) (i : ℕ) (m : ReaderState) (d : ℕ) → i < length bytes → Reaches s c (take i bytes) m d
+    → is_stopped m.nest.place ≡ false
+    → (step m (get_or bytes i 0) ≡ None) ⊎ ((n : ReaderState) × (step m (get_or bytes i 0) ≡ Some n) × (is_stopped n.nest.place ≡ false)
+    × (2 ^ 24 ≤ counted d (get_or bytes i 0))) → Fails s c bytes
 Fails-at s c bytes i m d h r moving f = record {
   front = take i bytes;
   byte = get_or bytes i 0;
@@ -94,7 +98,8 @@ after_stop-same fs after k e = cc
 after_stop-same fs (whole t) k e = let same : record { frames = fs; place = stopped t } ≡ k = cc in ap (λ (n : NestState). n.frames) same
 after_stop-same fs (stopped t) k e = cc
 
-token-few : (c : ℕ) (m k : NestState) (x : ℕ) (token : Token) → single x ≡ Some token → HasFewOrOne c m.frames → take_token m token ≡ Some k → HasFew (c + 1) k.frames
+token-few : (c : ℕ) (m k : NestState) (x : ℕ) (token : Token) → single x ≡ Some token → HasFewOrOne c m.frames → take_token m token ≡ Some k
+    → HasFew (c + 1) k.frames
 token-few c m k x (opening b) s h e =
     let q = cond_some (may_begin m) (record { frames = record { bracket = b; parts = [] } ∷ m.frames; place = opened }) k e in
     subst (λ (n : NestState). HasFew (c + 1) n.frames) q.1 (omega arith, one-more c m.frames h)
@@ -128,7 +133,8 @@ by_count P c x f g = with_test ((c == 0) && is_white x) refl
     with_test true e = let both = and_parts (c == 0) (is_white x) e in f (eqb-true c 0 both.0) both.1
     with_test false e = g (ap (λ b. cond b 0 (c + 1)) (sym e))
 
-pub orderly_step : (s : ReaderState) (c x : ℕ) (n : ReaderState) → IsOrderly s c → is_stopped s.nest.place ≡ false → step s x ≡ Some n → IsInTime n (counted c x) → IsOrderly n (counted c x)
+pub orderly_step : (s : ReaderState) (c x : ℕ) (n : ReaderState) → IsOrderly s c → is_stopped s.nest.place ≡ false → step s x ≡ Some n
+    → IsInTime n (counted c x) → IsOrderly n (counted c x)
 orderly_step s c x n o moving e t = record {
   valid = valid_step s n x o.valid e;
   few =

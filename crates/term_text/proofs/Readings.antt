@@ -33,8 +33,10 @@ no_stop_behind s t [] n e r =
     none_is_not_some (run (between s) (46 ∷ [])) n (ap (option_and_then (λ (m : ReaderState). run m [])) (step_behind_stop s t 46 e refl)) r
 no_stop_behind s t (x ∷ q) n e r =
     elim (cases_Bool (is_white x)) [
-      | inl w ↦ no_stop_behind s t q n e (sym (run_step (between s) (between s) x (q ++ 46 ∷ []) (ap (λ b. cond b (seated (Some s)) (begun_token s (single x) x)) w)) ∙ r)
-      | inr w ↦ none_is_not_some (run (between s) (x ∷ (q ++ 46 ∷ []))) n (ap (option_and_then (λ (m : ReaderState). run m (q ++ 46 ∷ []))) (step_behind_stop s t x e w)) r
+      | inl w ↦ no_stop_behind s t q n e (sym (run_step (between s) (between s) x (q ++ 46 ∷ [])
+          (ap (λ b. cond b (seated (Some s)) (begun_token s (single x) x)) w)) ∙ r)
+      | inr w ↦ none_is_not_some (run (between s) (x ∷ (q ++ 46 ∷ []))) n
+          (ap (option_and_then (λ (m : ReaderState). run m (q ++ 46 ∷ []))) (step_behind_stop s t x e w)) r
     ]
 
 -- ---- a token is begun only where one may stand
@@ -63,7 +65,8 @@ amid_holds : (s : NestState) (o : Option Unfinished) (n : ReaderState) → wants
 amid_holds s None n w e = absurd (cc)
 amid_holds s (Some u) n w e = let same : amid s u ≡ n = cc in subst (λ m. Holds m) same (hold_in s u w)
 
-either_holds : (b : Bool) (o p : Option ReaderState) (n : ReaderState) → (b ≡ true → o ≡ Some n → Holds n) → (p ≡ Some n → Holds n) → cond b o p ≡ Some n → Holds n
+either_holds : (b : Bool) (o p : Option ReaderState) (n : ReaderState) → (b ≡ true → o ≡ Some n → Holds n) → (p ≡ Some n → Holds n) → cond b o p ≡ Some n
+    → Holds n
 either_holds true o p n f g e = f refl e
 either_holds false o p n f g e = g e
 
@@ -79,7 +82,8 @@ begun_holds s x n e =
     either_holds (is_white x) (seated (Some s)) (begun_token s (single x) x) n
     (λ _ f. seated_holds (Some s) n f) (λ f. begun_token_holds s (single x) x n f) e
 
-extended_holds : (s : NestState) (token : Unfinished) (x : ℕ) (n : ReaderState) → MayHold token s → option_map (λ (u : Unfinished). amid s u) (extended token x) ≡ Some n → Holds n
+extended_holds : (s : NestState) (token : Unfinished) (x : ℕ) (n : ReaderState) → MayHold token s
+    → option_map (λ (u : Unfinished). amid s u) (extended token x) ≡ Some n → Holds n
 extended_holds s no_token x n h e = absurd (cc)
 extended_holds s (in_name cs) x n h e = amid_holds s (extended (in_name cs) x) n h e
 extended_holds s in_minus x n h e = amid_holds s (extended in_minus x) n h e
@@ -105,7 +109,8 @@ held_behind_stop in_minus s t e h = let w : false ≡ true = ap wants (sym e) �
 held_behind_stop (in_number minus z) s t e h = let w : false ≡ true = ap wants (sym e) ∙ h in absurd (cc)
 
 -- what leads to a full stop goes through no state behind one
-pub not_stopped_before : (p q : List ℕ) (x : ReaderState) (t : TermValue) (n : ReaderState) → run fresh_state p ≡ Some x → x.nest.place ≡ stopped t → run x (q ++ 46 ∷ []) ≡ Some n → ⊥
+pub not_stopped_before : (p q : List ℕ) (x : ReaderState) (t : TermValue) (n : ReaderState) → run fresh_state p ≡ Some x → x.nest.place ≡ stopped t
+    → run x (q ++ 46 ∷ []) ≡ Some n → ⊥
 not_stopped_before p q x t n r e f =
     let idle : x.token ≡ no_token = held_behind_stop x.token x.nest t e (run_holds fresh_state x p tt r) in
     no_stop_behind x.nest t q n e (ap (λ u. run (amid x.nest u) (q ++ 46 ∷ [])) (sym idle) ∙ f)
@@ -142,7 +147,8 @@ same_term t u e =
     cc
 
 -- a full stop that is reached is the last one on the way
-stop_is_first : (t : TermValue) (p q w : List ℕ) (n : ReaderState) → run fresh_state p ≡ Some (between (stopped_nest t)) → w ≡ p ++ (q ++ 46 ∷ []) → run fresh_state w ≡ Some n → ⊥
+stop_is_first : (t : TermValue) (p q w : List ℕ) (n : ReaderState) → run fresh_state p ≡ Some (between (stopped_nest t)) → w ≡ p ++ (q ++ 46 ∷ [])
+    → run fresh_state w ≡ Some n → ⊥
 stop_is_first t p q w n r e f =
     no_stop_behind (stopped_nest t) t q n refl
     (sym (ap (option_and_then (λ (m : ReaderState). run m (q ++ 46 ∷ []))) r)

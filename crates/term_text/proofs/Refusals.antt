@@ -11,7 +11,8 @@ abbrev pub HasNoStop : List ℕ → Type 0
 HasNoStop bytes = each (λ x. not (x == 46)) bytes ≡ true
 
 -- where bytes have no full stop, the first one stands at the byte behind them or later
-behind : (front : List ℕ) (x : ℕ) (more init rest : List ℕ) → HasNoStop front → front ++ (x ∷ more) ≡ init ++ (46 ∷ rest) → (back : List ℕ) × (init ++ 46 ∷ [] ≡ front ++ (x ∷ back))
+behind : (front : List ℕ) (x : ℕ) (more init rest : List ℕ) → HasNoStop front → front ++ (x ∷ more) ≡ init ++ (46 ∷ rest) → (back : List ℕ)
+    × (init ++ 46 ∷ [] ≡ front ++ (x ∷ back))
 behind [] x more [] rest h e = let same : x ≡ 46 = cc in ([], ap (λ y. y ∷ []) (sym same))
 behind [] x more (y ∷ init) rest h e = let same : x ≡ y = cc in (init ++ 46 ∷ [], ap (λ z. z ∷ (init ++ 46 ∷ [])) (sym same))
 behind (z ∷ front) x more [] rest h e =
@@ -25,7 +26,8 @@ behind (z ∷ front) x more (y ∷ init) rest h e =
     (found.0, cc)
 
 -- a byte at which the machine has no step stands in no sentence before its full stop
-pub no_sentence : (front : List ℕ) (x : ℕ) (more : List ℕ) (t : TermValue) (rest : List ℕ) → HasNoStop front → run fresh_state (front ++ x ∷ []) ≡ None → IsSentence t (front ++ (x ∷ more)) rest → ⊥
+pub no_sentence : (front : List ℕ) (x : ℕ) (more : List ℕ) (t : TermValue) (rest : List ℕ) → HasNoStop front → run fresh_state (front ++ x ∷ []) ≡ None
+    → IsSentence t (front ++ (x ∷ more)) rest → ⊥
 no_sentence front x more t rest plain fails s =
     let read = reaches t (front ++ (x ∷ more)) rest s in
     let found = behind front x more read.0 rest plain (read.1 ∙ append_assoc read.0 (46 ∷ []) rest) in

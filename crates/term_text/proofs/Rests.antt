@@ -39,7 +39,8 @@ stop_reached t bytes s =
 -- ---- where all bytes were read
 
 -- a full stop that is run to is the last byte that was read
-stop_is_last : (front rest : List ℕ) (s : ReaderState) (c : ℕ) (n : ReaderState) (d : ℕ) (m : ReaderState) → Reaches s c (front ++ rest) n d → run s front ≡ Some m → is_stopped m.nest.place ≡ true → (rest ≡ []) × (n ≡ m)
+stop_is_last : (front rest : List ℕ) (s : ReaderState) (c : ℕ) (n : ReaderState) (d : ℕ) (m : ReaderState) → Reaches s c (front ++ rest) n d
+    → run s front ≡ Some m → is_stopped m.nest.place ≡ true → (rest ≡ []) × (n ≡ m)
 stop_is_last [] [] s c n d m r e p = let same : s ≡ m = cc in (refl, r.0 ∙ same)
 stop_is_last [] (x ∷ rest) s c n d m r e p =
     let same : s ≡ m = cc in
@@ -47,46 +48,54 @@ stop_is_last [] (x ∷ rest) s c n d m r e p =
 stop_is_last (x ∷ front) rest s c n d m r e p =
     stop_is_last front rest r.1.0 (counted c x) n d m r.1.3 (sym (run_step s r.1.0 x front r.1.1) ∙ e) p
 
-next_is_last : (finished : Bool) (bytes : List ℕ) (n : ReaderState) (d : ℕ) (t : TermValue) (taken : ℕ) → Reaches fresh_state 0 bytes n d → IsNext finished bytes t taken → (drop taken bytes ≡ []) × (n ≡ between (stopped_nest t))
+next_is_last : (finished : Bool) (bytes : List ℕ) (n : ReaderState) (d : ℕ) (t : TermValue) (taken : ℕ) → Reaches fresh_state 0 bytes n d
+    → IsNext finished bytes t taken → (drop taken bytes ≡ []) × (n ≡ between (stopped_nest t))
 next_is_last finished bytes n d t taken r next =
     stop_is_last (take taken bytes) (drop taken bytes) fresh_state 0 n d (between (stopped_nest t))
     (subst (λ (l : List ℕ). Reaches fresh_state 0 l n d) (sym (take-append-drop taken bytes)) r)
     (stop_reached t (take taken bytes) next.sentence) refl
 
 -- no full stop was read
-going_none : (finished : Bool) (bytes : List ℕ) (n : ReaderState) (d : ℕ) → Reaches fresh_state 0 bytes n d → is_stopped n.nest.place ≡ false → HasNone finished bytes
+going_none : (finished : Bool) (bytes : List ℕ) (n : ReaderState) (d : ℕ) → Reaches fresh_state 0 bytes n d → is_stopped n.nest.place ≡ false
+    → HasNone finished bytes
 going_none finished bytes n d r going = λ t taken next.
     let clash : false ≡ true = sym going ∙ ap (λ (k : ReaderState). is_stopped k.nest.place) (next_is_last finished bytes n d t taken r next).1 in cc
 
 -- white space, or a front of a text
-going_script : (finished : Bool) (bytes : List ℕ) (n : ReaderState) (d : ℕ) → Reaches fresh_state 0 bytes n d → IsOrderly n d → is_stopped n.nest.place ≡ false → each is_white bytes ≡ false → IsScript finished bytes [] may_go_on
+going_script : (finished : Bool) (bytes : List ℕ) (n : ReaderState) (d : ℕ) → Reaches fresh_state 0 bytes n d → IsOrderly n d → is_stopped n.nest.place ≡ false
+    → each is_white bytes ≡ false → IsScript finished bytes [] may_go_on
 going_script finished bytes n d r o going dark = (going_none finished bytes n d r going, (dark, front_of_text bytes n d r o.valid going (o.short going)))
 
-pub going_rest : (finished : Bool) (bytes : List ℕ) (n : ReaderState) (d : ℕ) → Reaches fresh_state 0 bytes n d → IsOrderly n d → is_stopped n.nest.place ≡ false → (rest : Rest) × IsScript finished bytes [] rest
+pub going_rest : (finished : Bool) (bytes : List ℕ) (n : ReaderState) (d : ℕ) → Reaches fresh_state 0 bytes n d → IsOrderly n d
+    → is_stopped n.nest.place ≡ false → (rest : Rest) × IsScript finished bytes [] rest
 going_rest finished bytes n d r o going =
     by_test (each is_white bytes) (λ _. (rest : Rest) × IsScript finished bytes [] rest)
     (λ white. (blank, (going_none finished bytes n d r going, white)))
     (λ dark. (may_go_on, going_script finished bytes n d r o going dark))
 
-pub more_needed : (bytes : List ℕ) (n : ReaderState) (d : ℕ) → Reaches fresh_state 0 bytes n d → IsOrderly n d → is_stopped n.nest.place ≡ false → Answers false bytes (Ok Again)
+pub more_needed : (bytes : List ℕ) (n : ReaderState) (d : ℕ) → Reaches fresh_state 0 bytes n d → IsOrderly n d → is_stopped n.nest.place ≡ false
+    → Answers false bytes (Ok Again)
 more_needed bytes n d r o going =
     by_test (each is_white bytes) (λ _. Answers false bytes (Ok Again))
     (λ white. record { rest = blank; script = (going_none false bytes n d r going, white); given = refl })
     (λ dark. record { rest = may_go_on; script = going_script false bytes n d r o going dark; given = refl })
 
-pub ended_blank : (bytes : List ℕ) (n : ReaderState) (d : ℕ) → Reaches fresh_state 0 bytes n d → is_stopped n.nest.place ≡ false → d ≡ 0 → Answers true bytes (Ok End)
+pub ended_blank : (bytes : List ℕ) (n : ReaderState) (d : ℕ) → Reaches fresh_state 0 bytes n d → is_stopped n.nest.place ≡ false → d ≡ 0
+    → Answers true bytes (Ok End)
 ended_blank bytes n d r going none = record {
   rest = blank;
   script = (going_none true bytes n d r going, all_white bytes (sym (total_counted fresh_state bytes n d r) ∙ none));
   given = refl;
 }
 
-pub ended_inside : (bytes : List ℕ) (n : ReaderState) (d : ℕ) → Reaches fresh_state 0 bytes n d → IsOrderly n d → is_stopped n.nest.place ≡ false → 0 < d → Answers true bytes (Err NotYet)
+pub ended_inside : (bytes : List ℕ) (n : ReaderState) (d : ℕ) → Reaches fresh_state 0 bytes n d → IsOrderly n d → is_stopped n.nest.place ≡ false → 0 < d
+    → Answers true bytes (Err NotYet)
 ended_inside bytes n d r o going some = record {
   rest = may_go_on;
   script =
       going_script true bytes n d r o going
-      (by_test (each is_white bytes) (λ b. b ≡ false) (λ white. absurd (omega (arith, some, total_counted fresh_state bytes n d r, white_length bytes white))) (λ _. refl));
+      (by_test (each is_white bytes) (λ b. b ≡ false) (λ white. absurd (omega (arith, some, total_counted fresh_state bytes n d r, white_length bytes white)))
+      (λ _. refl));
   given = refl;
 }
 
@@ -137,13 +146,15 @@ always_refused true = refl
 always_refused false = refl
 
 -- a byte stands behind it with which it is none
-pub stop_does_not_count : (finished : Bool) (t : TermValue) (front rest : List ℕ) → IsSentence t front [] → ends finished rest ≡ Some false → Answers finished (front ++ rest) (Err NotYet)
+pub stop_does_not_count : (finished : Bool) (t : TermValue) (front rest : List ℕ) → IsSentence t front [] → ends finished rest ≡ Some false
+    → Answers finished (front ++ rest) (Err NotYet)
 stop_does_not_count finished t front rest s e = record {
   rest = faulty;
   script = (
     λ u taken next.
         let behind : rest ≡ drop taken (front ++ rest)
-        = (one_reading t u (front ++ rest) rest (drop taken (front ++ rest)) (IsSentence-more t front [] rest s) (next_sentence finished (front ++ rest) u taken next)).1 in
+        = (one_reading t u (front ++ rest) rest (drop taken (front ++ rest)) (IsSentence-more t front [] rest s)
+        (next_sentence finished (front ++ rest) u taken next)).1 in
         let clash : ◌≡◌ {A = Option Bool} (Some false) (Some true) = sym e ∙ ap (ends finished) behind ∙ next.end in cc,
     (
       sentence_is_dark t front rest s,
@@ -166,19 +177,22 @@ stopped_term (whole t) e = cc
 stopped_term (stopped t) e = (t, refl)
 
 -- what was read to a full stop is a sentence
-pub sentence_read : (bytes : List ℕ) (n : ReaderState) (d : ℕ) → Reaches fresh_state 0 bytes n d → is_stopped n.nest.place ≡ true → (t : TermValue) × IsSentence t bytes [] × (text_length bytes ≤ 2 ^ 24)
+pub sentence_read : (bytes : List ℕ) (n : ReaderState) (d : ℕ) → Reaches fresh_state 0 bytes n d → is_stopped n.nest.place ≡ true → (t : TermValue)
+    × IsSentence t bytes [] × (text_length bytes ≤ 2 ^ 24)
 sentence_read bytes n d r e =
     let term = stopped_term n.nest.place e in
     let read = whole_read bytes n d term.0 r term.1 in
     (term.0, read.sentence, subst (λ k. k ≤ 2 ^ 24) (total_counted fresh_state bytes n d r) read.within)
 
-pub stop_undecided : (finished : Bool) (front rest : List ℕ) (n : ReaderState) (d : ℕ) → Reaches fresh_state 0 front n d → is_stopped n.nest.place ≡ true → ends finished rest ≡ None → Answers finished (front ++ rest) (Ok Again)
+pub stop_undecided : (finished : Bool) (front rest : List ℕ) (n : ReaderState) (d : ℕ) → Reaches fresh_state 0 front n d → is_stopped n.nest.place ≡ true
+    → ends finished rest ≡ None → Answers finished (front ++ rest) (Ok Again)
 stop_undecided true front [] n d r e f = cc
 stop_undecided false front [] n d r e f =
     let read = sentence_read front n d r e in
     subst (λ (l : List ℕ). Answers false l (Ok Again)) (sym (append-nil front)) (stop_may_count read.0 front read.1 read.2)
 stop_undecided finished front (x ∷ rest) n d r e f = cc
 
-pub stop_is_none : (finished : Bool) (front rest : List ℕ) (n : ReaderState) (d : ℕ) → Reaches fresh_state 0 front n d → is_stopped n.nest.place ≡ true → ends finished rest ≡ Some false → Answers finished (front ++ rest) (Err NotYet)
+pub stop_is_none : (finished : Bool) (front rest : List ℕ) (n : ReaderState) (d : ℕ) → Reaches fresh_state 0 front n d → is_stopped n.nest.place ≡ true
+    → ends finished rest ≡ Some false → Answers finished (front ++ rest) (Err NotYet)
 stop_is_none finished front rest n d r e f =
     let read = sentence_read front n d r e in stop_does_not_count finished read.0 front rest read.1 f

@@ -9,7 +9,9 @@ use Rattle.term_text.proofs.Terms.{take_term}
 
 -- ---- bytes one after another
 
-through : (o : Option ReaderState) (p q : List ℕ) → ((n : ReaderState) → run n (p ++ q) ≡ option_and_then (λ (m : ReaderState). run m q) (run n p)) → option_and_then (λ (n : ReaderState). run n (p ++ q)) o ≡ option_and_then (λ (m : ReaderState). run m q) (option_and_then (λ (n : ReaderState). run n p) o)
+through : (o : Option ReaderState) (p q : List ℕ) → ((n : ReaderState) → run n (p ++ q) ≡ option_and_then (λ (m : ReaderState). run m q) (run n p))
+    → option_and_then (λ (n : ReaderState). run n (p ++ q)) o ≡ option_and_then (λ (m : ReaderState). run m q)
+    (option_and_then (λ (n : ReaderState). run n p) o)
 through None p q e = refl
 through (Some n) p q e = e n
 
@@ -70,7 +72,8 @@ regrouped : (a b c d : List ℕ) → (a ++ (b ++ c)) ++ d ≡ a ++ (b ++ (c ++ d
 regrouped a b c d = simp append_assoc
 
 -- what tokens are spelled as does not depend on what stands behind some bytes that follow them
-Spells_front : (ts : List Token) (bytes m r : List ℕ) → 0 < length m → Spells ts bytes (m ++ r) → (front : List ℕ) × (bytes ≡ front ++ (m ++ r)) × Spells ts (front ++ m) m
+Spells_front : (ts : List Token) (bytes m r : List ℕ) → 0 < length m → Spells ts bytes (m ++ r) → (front : List ℕ) × (bytes ≡ front ++ (m ++ r))
+    × Spells ts (front ++ m) m
 Spells_front [] bytes m r h e = ([], e, refl)
 Spells_front (token ∷ ts) bytes m r h (after, f, e) =
     let more = Spells_front ts after m r h e in (
@@ -78,7 +81,15 @@ Spells_front (token ∷ ts) bytes m r h (after, f, e) =
       f.whole ∙ ap (λ a. f.blanks ++ (f.spelling ++ a)) more.1 ∙ sym (regrouped f.blanks f.spelling more.0 (m ++ r)),
       (
         more.0 ++ m,
-        record { blanks = f.blanks; spelling = f.spelling; blank = f.blank; spelled = f.spelled; apart = IsApart_front token more.0 m r h (subst (λ a. IsApart token a) more.1 f.apart); whole = regrouped f.blanks f.spelling more.0 m },
+        record {
+          blanks = f.blanks;
+          spelling = f.spelling;
+          blank = f.blank;
+          spelled = f.spelled;
+          apart =
+              IsApart_front token more.0 m r h (subst (λ a. IsApart token a) more.1 f.apart);
+          whole = regrouped f.blanks f.spelling more.0 m;
+        },
         more.2,
       ),
     )
@@ -92,7 +103,8 @@ whole_nest t = record { frames = []; place = whole t }
 abbrev pub stopped_nest : TermValue → NestState
 stopped_nest t = record { frames = []; place = stopped t }
 
-term_is_read : (t : TermValue) (bytes rest : List ℕ) → IsBuilt t → depth t ≤ 256 → Spells (tokens_of t) bytes rest → run fresh_state bytes ≡ run (between (whole_nest t)) rest
+term_is_read : (t : TermValue) (bytes rest : List ℕ) → IsBuilt t → depth t ≤ 256 → Spells (tokens_of t) bytes rest
+    → run fresh_state bytes ≡ run (between (whole_nest t)) rest
 term_is_read t bytes rest b d e =
     let taken : take_tokens (record { frames = []; place = want }) (tokens_of t) ≡ Some (whole_nest t)
     = ap (take_tokens (record { frames = []; place = want })) (sym (append-nil (tokens_of t))) ∙ take_term t [] want [] refl b (omega arith) in
@@ -107,12 +119,14 @@ stop_text bytes rest f =
     f.whole ∙ ap (λ b. f.blanks ++ (b ++ rest)) f.spelled ∙ sym (append_assoc f.blanks (46 ∷ []) rest)
 
 -- the machine reads a sentence, up to its full stop
-pub reaches : (t : TermValue) (bytes rest : List ℕ) → IsSentence t bytes rest → (init : List ℕ) × (bytes ≡ (init ++ 46 ∷ []) ++ rest) × (run fresh_state (init ++ 46 ∷ []) ≡ Some (record { nest = record { frames = []; place = stopped t }; token = no_token }))
+pub reaches : (t : TermValue) (bytes rest : List ℕ) → IsSentence t bytes rest → (init : List ℕ) × (bytes ≡ (init ++ 46 ∷ []) ++ rest)
+    × (run fresh_state (init ++ 46 ∷ []) ≡ Some (record { nest = record { frames = []; place = stopped t }; token = no_token }))
 reaches t bytes rest s =
     let parts = Spells_parts (tokens_of t) (full_stop ∷ []) bytes rest s.text in
     let stop : Fronts full_stop parts.0 rest = subst (λ r. Fronts full_stop parts.0 r) parts.2.2 parts.2.1 in
     let end : List ℕ = stop.blanks ++ 46 ∷ [] in
-    let front = Spells_front (tokens_of t) bytes end rest (omega (arith, length-append stop.blanks (46 ∷ []))) (subst (λ m. Spells (tokens_of t) bytes m) (stop_text parts.0 rest stop) parts.1) in (
+    let front = Spells_front (tokens_of t) bytes end rest (omega (arith, length-append stop.blanks (46 ∷ [])))
+    (subst (λ m. Spells (tokens_of t) bytes m) (stop_text parts.0 rest stop) parts.1) in (
       front.0 ++ stop.blanks,
       front.1 ∙ sym (append_assoc front.0 end rest) ∙ ap (λ a. a ++ rest) (sym (append_assoc front.0 stop.blanks (46 ∷ []))),
       ap (run fresh_state) (append_assoc front.0 stop.blanks (46 ∷ []))

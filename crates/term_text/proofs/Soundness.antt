@@ -12,7 +12,8 @@ use Rattle.term_text.proofs.Reaching.{by_count}
 use Rattle.term_text.proofs.Backward.{IsGoingOn, valid_step, reads_step, stop_step}
 
 -- two parts of the bytes, one behind the other
-pub Reaches-append : (s : ReaderState) (c : ℕ) (xs ys : List ℕ) (m : ReaderState) (d : ℕ) (n : ReaderState) (e : ℕ) → Reaches s c xs m d → Reaches m d ys n e → Reaches s c (xs ++ ys) n e
+pub Reaches-append : (s : ReaderState) (c : ℕ) (xs ys : List ℕ) (m : ReaderState) (d : ℕ) (n : ReaderState) (e : ℕ) → Reaches s c xs m d → Reaches m d ys n e
+    → Reaches s c (xs ++ ys) n e
 Reaches-append s c [] ys m d n e r q =
     subst (λ (k : ReaderState). Reaches k c ys n e) r.0 (subst (λ k. Reaches m k ys n e) r.1 q)
 Reaches-append s c (x ∷ xs) ys m d n e r q = (r.0, (r.1.0, r.1.1, r.1.2, Reaches-append r.1.0 (counted c x) xs ys m d n e r.1.3 q))
@@ -37,7 +38,8 @@ in_time : (s : ReaderState) (c : ℕ) → is_stopped s.nest.place ≡ false → 
 in_time s c going (inl stops) = let clash : true ≡ false = sym stops ∙ going in cc
 in_time s c going (inr less) = less
 
-whole_on : (xs before : List ℕ) (s : ReaderState) (c : ℕ) (x : ℕ) (n : ReaderState) (d : ℕ) (t : TermValue) → IsValid s → HasRead s before → c < 2 ^ 24 → Reaches s c (x ∷ xs) n d → n.nest.place ≡ stopped t → IsWhole t (before ++ (x ∷ xs)) n d
+whole_on : (xs before : List ℕ) (s : ReaderState) (c : ℕ) (x : ℕ) (n : ReaderState) (d : ℕ) (t : TermValue) → IsValid s → HasRead s before → c < 2 ^ 24
+    → Reaches s c (x ∷ xs) n d → n.nest.place ≡ stopped t → IsWhole t (before ++ (x ∷ xs)) n d
 whole_on [] before s c x n d t g h short r p =
     let m = r.1.0 in
     let place : m.nest.place ≡ stopped t = ap (λ (k : ReaderState). k.nest.place) (sym r.1.3.0) ∙ p in
@@ -54,7 +56,8 @@ whole_on (y ∷ ys) before s c x n d t g h short r p =
     (in_time m (counted c x) r.1.3.0 r.1.2) r.1.3 p)
 
 -- what leads to a full stop is the text of the term in front of it
-pub whole_read : (bytes : List ℕ) (n : ReaderState) (total : ℕ) (t : TermValue) → Reaches fresh_state 0 bytes n total → n.nest.place ≡ stopped t → IsWhole t bytes n total
+pub whole_read : (bytes : List ℕ) (n : ReaderState) (total : ℕ) (t : TermValue) → Reaches fresh_state 0 bytes n total → n.nest.place ≡ stopped t
+    → IsWhole t bytes n total
 whole_read [] n total t r p = let clash : want ≡ stopped t = ap (λ (k : ReaderState). k.nest.place) (sym r.0) ∙ p in cc
 whole_read (x ∷ xs) n total t r p =
     whole_on xs [] fresh_state 0 x n total t

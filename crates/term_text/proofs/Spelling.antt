@@ -44,7 +44,8 @@ Spells-more [] b r c h = ap (λ l. l ++ c) h
 Spells-more (token ∷ tokens) b r c h = (h.0 ++ c, Fronts-more token b h.0 c h.1, Spells-more tokens h.0 r c h.2)
 
 -- what the rest begins with is one more token
-pub Spells-push : (tokens : List Token) (token : Token) (b w s c : List ℕ) → Spells tokens b (w ++ (s ++ c)) → each is_white w ≡ true → Spelled token s → IsApart token c → Spells (tokens ++ token ∷ []) b c
+pub Spells-push : (tokens : List Token) (token : Token) (b w s c : List ℕ) → Spells tokens b (w ++ (s ++ c)) → each is_white w ≡ true → Spelled token s
+    → IsApart token c → Spells (tokens ++ token ∷ []) b c
 Spells-push [] token b w s c h white spelled apart = (c, record { blanks = w; spelling = s; blank = white; spelled = spelled; apart = apart; whole = h }, refl)
 Spells-push (first ∷ tokens) token b w s c h white spelled apart =
     (h.0, h.1, Spells-push tokens token h.0 w s c h.2 white spelled apart)
@@ -61,7 +62,8 @@ value_after-push : (minus : Bool) (z : ℤ) (ds : List ℕ) (x : ℕ) → value_
 value_after-push minus z [] x = refl
 value_after-push minus z (d ∷ ds) x = value_after-push minus (with_digit minus z d) ds x
 
-pub Decimal-push : (minus : Bool) (z : ℤ) (ds : List ℕ) (x : ℕ) → Decimal minus z ds → is_ascii_digit x ≡ true → Decimal minus (with_digit minus z x) (ds ++ x ∷ [])
+pub Decimal-push : (minus : Bool) (z : ℤ) (ds : List ℕ) (x : ℕ) → Decimal minus z ds → is_ascii_digit x ≡ true
+    → Decimal minus (with_digit minus z x) (ds ++ x ∷ [])
 Decimal-push minus z ds x h e = record {
   some = omega (arith, length_push ds x);
   decimal = each-push is_ascii_digit ds x h.decimal e;
@@ -96,7 +98,8 @@ fits-digit true x e = agree_below_at (λ d. fits (with_digit true (pos 0) d)) (�
 fits-digit false x e = agree_below_at (λ d. fits (with_digit false (pos 0) d)) (λ d. true) 58 x refl (digit_below x e)
 
 -- a valid token with one more byte is valid
-pub ValidToken-extended : (nest : NestState) (token u : Unfinished) (x : ℕ) → ValidToken nest token → goes_on token x ≡ true → extended token x ≡ Some u → ValidToken nest u
+pub ValidToken-extended : (nest : NestState) (token u : Unfinished) (x : ℕ) → ValidToken nest token → goes_on token x ≡ true → extended token x ≡ Some u
+    → ValidToken nest u
 ValidToken-extended nest no_token u x g h e = cc
 ValidToken-extended nest (in_name characters) u x g h e =
     let k = cond_some (nat_lt (length characters) 255) (in_name (characters ++ x ∷ [])) u e in
@@ -110,7 +113,8 @@ ValidToken-extended nest (in_number minus z) u x g h e =
     subst (λ (v : Unfinished). ValidToken nest v) k.1 (g.0, k.0)
 
 -- its bytes are one more
-pub TokenBytes-extended : (token u : Unfinished) (begun : List ℕ) (x : ℕ) → TokenBytes token begun → goes_on token x ≡ true → extended token x ≡ Some u → TokenBytes u (begun ++ x ∷ [])
+pub TokenBytes-extended : (token u : Unfinished) (begun : List ℕ) (x : ℕ) → TokenBytes token begun → goes_on token x ≡ true → extended token x ≡ Some u
+    → TokenBytes u (begun ++ x ∷ [])
 TokenBytes-extended no_token u begun x b h e = cc
 TokenBytes-extended (in_name characters) u begun x b h e =
     let k = cond_some (nat_lt (length characters) 255) (in_name (characters ++ x ∷ [])) u e in
@@ -133,7 +137,8 @@ pub by_cond : {A P : Type 0} (b : Bool) (x y z : A) → cond b x y ≡ z → (b 
 by_cond true x y z e f g = f refl e
 by_cond false x y z e f g = g refl e
 
-begins_as : (nest : NestState) (x : ℕ) (t u : Unfinished) → ValidToken nest t × TokenBytes t (x ∷ []) → Some t ≡ Some u → ValidToken nest u × TokenBytes u (x ∷ [])
+begins_as : (nest : NestState) (x : ℕ) (t u : Unfinished) → ValidToken nest t × TokenBytes t (x ∷ []) → Some t ≡ Some u → ValidToken nest u
+    × TokenBytes u (x ∷ [])
 begins_as nest x t u h e = let same : t ≡ u = cc in subst (λ (v : Unfinished). ValidToken nest v × TokenBytes v (x ∷ [])) same h
 
 -- the token that a byte begins is valid, and the byte is all of it
@@ -146,7 +151,8 @@ first_byte-begins nest x u b e =
     (λ l. begins_as nest x (in_name (x ∷ [])) u ((b, and_from (is_ascii_lowercase x) true l refl, omega arith), refl))
     (λ _ none. cc)))
 
-spells_as : (x d : ℕ) (t token : Token) (c : List ℕ) → Spelled t (d ∷ []) × IsApart t c → (x == d) ≡ true → Some t ≡ Some token → Spelled token (x ∷ []) × IsApart token c
+spells_as : (x d : ℕ) (t token : Token) (c : List ℕ) → Spelled t (d ∷ []) × IsApart t c → (x == d) ≡ true → Some t ≡ Some token → Spelled token (x ∷ [])
+    × IsApart token c
 spells_as x d t token c h m e =
     let same : t ≡ token = cc in
     subst (λ y. Spelled token (y ∷ []) × IsApart token c) (sym (eqb-true x d m))

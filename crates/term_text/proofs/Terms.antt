@@ -41,35 +41,44 @@ same_bracket-self Square = refl
 begins : (fs : List Frame) (place : NestPlace) → wants place ≡ true → length fs < 256 → may_begin (record { frames = fs; place = place }) ≡ true
 begins fs place w h = let l = lt-ltb (length fs) 256 h in rw (w, l)
 
-take_opening : (k : Bracket) (fs : List Frame) (place : NestPlace) (ts : List Token) → wants place ≡ true → length fs < 256 → take_tokens (record { frames = fs; place = place }) (opening k ∷ ts) ≡ take_tokens (at_place k [] fs opened) ts
+take_opening : (k : Bracket) (fs : List Frame) (place : NestPlace) (ts : List Token) → wants place ≡ true → length fs < 256
+    → take_tokens (record { frames = fs; place = place }) (opening k ∷ ts) ≡ take_tokens (at_place k [] fs opened) ts
 take_opening k fs place ts w h =
     let same : take_token (record { frames = fs; place = place }) (opening k) ≡ Some (at_place k [] fs opened) = rw (begins fs place w h) in
     ap (option_and_then (λ (n : NestState). take_tokens n ts)) same
 
-take_atomic : (token : Token) (t : TermValue) (fs : List Frame) (place : NestPlace) (ts : List Token) → take_token (record { frames = fs; place = place }) token ≡ cond (may_begin (record { frames = fs; place = place })) (Some (complete fs t)) None → wants place ≡ true → length fs < 256 → take_tokens (record { frames = fs; place = place }) (token ∷ ts) ≡ take_tokens (complete fs t) ts
+take_atomic : (token : Token) (t : TermValue) (fs : List Frame) (place : NestPlace) (ts : List Token)
+    → take_token (record { frames = fs; place = place }) token ≡ cond (may_begin (record { frames = fs; place = place })) (Some (complete fs t)) None
+    → wants place ≡ true → length fs < 256 → take_tokens (record { frames = fs; place = place }) (token ∷ ts) ≡ take_tokens (complete fs t) ts
 take_atomic token t fs place ts e w h =
-    let same : take_token (record { frames = fs; place = place }) token ≡ Some (complete fs t) = e ∙ ap (λ b. cond b (Some (complete fs t)) None) (begins fs place w h) in
+    let same : take_token (record { frames = fs; place = place }) token ≡ Some (complete fs t) = e
+    ∙ ap (λ b. cond b (Some (complete fs t)) None) (begins fs place w h) in
     ap (option_and_then (λ (n : NestState). take_tokens n ts)) same
 
-take_closing : (k : Bracket) (ps : List TermValue) (fs : List Frame) (ts : List Token) → take_tokens (at_place k ps fs after) (closing k ∷ ts) ≡ take_tokens (complete fs (bracketed k ps)) ts
+take_closing : (k : Bracket) (ps : List TermValue) (fs : List Frame) (ts : List Token)
+    → take_tokens (at_place k ps fs after) (closing k ∷ ts) ≡ take_tokens (complete fs (bracketed k ps)) ts
 take_closing k ps fs ts =
     let same : take_token (at_place k ps fs after) (closing k) ≡ Some (complete fs (bracketed k ps)) = rw (same_bracket-self k) in
     ap (option_and_then (λ (n : NestState). take_tokens n ts)) same
 
-take_closing-none : (k : Bracket) (fs : List Frame) (ts : List Token) → take_tokens (at_place k [] fs opened) (closing k ∷ ts) ≡ take_tokens (complete fs (bracketed k [])) ts
+take_closing-none : (k : Bracket) (fs : List Frame) (ts : List Token) → take_tokens (at_place k [] fs opened) (closing k ∷ ts) ≡ take_tokens
+    (complete fs (bracketed k [])) ts
 take_closing-none k fs ts =
     let same : take_token (at_place k [] fs opened) (closing k) ≡ Some (complete fs (bracketed k [])) = rw (same_bracket-self k) in
     ap (option_and_then (λ (n : NestState). take_tokens n ts)) same
 
 -- what is proved of a term, and of the elements of a list behind the first
 abbrev Taken : TermValue → Type 0
-Taken t = (fs : List Frame) (place : NestPlace) (ts : List Token) → wants place ≡ true → depth t + length fs ≤ 256 → take_tokens (record { frames = fs; place = place }) (tokens_of t ++ ts) ≡ take_tokens (complete fs t) ts
+Taken t = (fs : List Frame) (place : NestPlace) (ts : List Token) → wants place ≡ true → depth t + length fs ≤ 256
+    → take_tokens (record { frames = fs; place = place }) (tokens_of t ++ ts) ≡ take_tokens (complete fs t) ts
 
 abbrev TakenAfter : TermValue → Type 0
-TakenAfter v = (k : Bracket) (ps : List TermValue) (fs : List Frame) (ts : List Token) → suc (parts_depth v) + length fs ≤ 256 → take_tokens (at_place k ps fs after) (tokens_after v ++ ts) ≡ take_tokens (at_place k (ps ++ elements v) fs after) ts
+TakenAfter v = (k : Bracket) (ps : List TermValue) (fs : List Frame) (ts : List Token) → suc (parts_depth v) + length fs ≤ 256
+    → take_tokens (at_place k ps fs after) (tokens_after v ++ ts) ≡ take_tokens (at_place k (ps ++ elements v) fs after) ts
 
 abbrev TakenElements : TermValue → Type 0
-TakenElements v = (k : Bracket) (fs : List Frame) (ts : List Token) → suc (parts_depth v) + length fs ≤ 256 → take_tokens (at_place k [] fs opened) (tokens_of_elements v ++ closing k ∷ ts) ≡ take_tokens (complete fs (bracketed k (elements v))) ts
+TakenElements v = (k : Bracket) (fs : List Frame) (ts : List Token) → suc (parts_depth v) + length fs ≤ 256
+    → take_tokens (at_place k [] fs opened) (tokens_of_elements v ++ closing k ∷ ts) ≡ take_tokens (complete fs (bracketed k (elements v))) ts
 
 taken_elements-cons : (first rest : TermValue) → IsProper rest → Taken first → TakenAfter rest → TakenElements (cons first rest)
 taken_elements-cons first rest p one more k fs ts h =
@@ -93,7 +102,8 @@ taken-tuple parts p some fs place ts w h =
     ∙ some Tuple fs ts h
     ∙ ap (λ v. take_tokens (complete fs (tuple v)) ts) (chain-elements parts p)
 
-square_tokens : (first rest : TermValue) (ts : List Token) → (tokens_of first ++ (tokens_after rest ++ closing Square ∷ [])) ++ ts ≡ (tokens_of first ++ tokens_after rest) ++ closing Square ∷ ts
+square_tokens : (first rest : TermValue) (ts : List Token) → (tokens_of first ++ (tokens_after rest ++ closing Square ∷ [])) ++ ts ≡
+    (tokens_of first ++ tokens_after rest) ++ closing Square ∷ ts
 square_tokens first rest ts = simp append_assoc
 
 taken-cons : (first rest : TermValue) → IsProper rest → TakenElements (cons first rest) → Taken (cons first rest)
@@ -140,5 +150,6 @@ mutual
   taken_after other p b = absurd p
 
 -- the tokens of a term complete it
-pub take_term : (t : TermValue) (fs : List Frame) (place : NestPlace) (ts : List Token) → wants place ≡ true → IsBuilt t → depth t + length fs ≤ 256 → take_tokens (record { frames = fs; place = place }) (tokens_of t ++ ts) ≡ take_tokens (complete fs t) ts
+pub take_term : (t : TermValue) (fs : List Frame) (place : NestPlace) (ts : List Token) → wants place ≡ true → IsBuilt t → depth t + length fs ≤ 256
+    → take_tokens (record { frames = fs; place = place }) (tokens_of t ++ ts) ≡ take_tokens (complete fs t) ts
 take_term t fs place ts w b h = taken t b fs place ts w h

@@ -2,7 +2,7 @@ ghost use Rattle.std.specs.Prelude.{◌≡◌, ◌<◌, ◌≤◌, [], ◌∷◌
 ghost use Rattle.dets_term.specs.TermValue.{atom};
 
 use crate::{Memory, TextFault};
-use dets_term::{Term, TermFault, Text};
+use dets_term::{Term, Text, within_limits};
 use std::alloc::Global;
 
 /// The greatest number of characters of an atom.
@@ -46,10 +46,6 @@ impl Name {
         requires { length self.now.text ≤ 255 }
         ensures { IfOk result (λ term. term ≡ atom self.now.text) }
     {
-        match Term::atom(alloc, self.text.as_str()) {
-            Ok(term) => Ok(term),
-            Err(TermFault::Memory) => Err(Memory),
-            Err(_) => unreachable!(),
-        }
+        within_limits(Term::atom(alloc, self.text.as_str()))
     }
 }

@@ -1,4 +1,4 @@
-ghost use Rattle.std.specs.Prelude.{◌≡◌, ◌<◌, ◌≤◌, ◌^◌, [], true, length, Some, None, IfOk, IfErr, OnOk, IsErrOf};
+ghost use Rattle.std.specs.Prelude.{◌≡◌, ◌<◌, ◌≤◌, ◌^◌, [], true, length, Some, None, IfOk, OnOk, IsErrOf};
 ghost use Rattle.dets_term.specs.Parts.{deepest};
 ghost use Rattle.term_text.specs.Token.{opening, closing, comma, full_stop};
 ghost use Rattle.term_text.specs.Machine.{want, stopped, may_begin, complete, bracketed, take_token};
@@ -6,7 +6,7 @@ ghost use Rattle.term_text.specs.Reading.{nest_of, is_stopped, HasFew};
 ghost use Rattle.term_text.specs.Valid.{ValidFrames};
 
 use crate::{Memory, TextFault};
-use dets_term::{Term, TermFault, TermList};
+use dets_term::{Term, TermList, within_limits};
 use std::alloc::Global;
 use std::mem;
 
@@ -168,17 +168,5 @@ fn bracketed(frame: Open) -> Result<Term, Memory>
     match frame.bracket {
         Bracket::Tuple => within_limits(Term::tuple(frame.parts)),
         Bracket::List => within_limits(Term::list(frame.parts)),
-    }
-}
-
-/// A term that is within its limits, where there was memory.
-fn within_limits(term: Result<Term, TermFault>) -> Result<Term, Memory>
-    requires { IfErr term (λ fault. fault ≡ TermFault.Memory) }
-    ensures { IfOk result (λ made. term ≡ Ok made) }
-{
-    match term {
-        Ok(term) => Ok(term),
-        Err(TermFault::Memory) => Err(Memory),
-        Err(_) => unreachable!(),
     }
 }

@@ -4,7 +4,9 @@ use Rattle.term_text.proofs.Limits.{built_or_memory}
 use Rattle.term_text.proofs.nest.bracketed.Goals as goal
 
 pub within_limits-requires : goal.within_limits-requires
-within_limits-requires c = built_or_memory c.args.frame.parts (tuple (chain c.args.frame.parts nil)) c.tuple.result refl c.requires.few c.requires.shallow c.tuple.ensures
+within_limits-requires c = built_or_memory c.args.frame.parts (tuple (chain c.args.frame.parts nil)) c.tuple.result refl c.requires.few c.requires.shallow
+    c.tuple.ensures
 
 pub within_limits-requires-in-List : goal.within_limits-requires-in-List
-within_limits-requires-in-List c = built_or_memory c.args.frame.parts (chain c.args.frame.parts nil) c.list.result refl c.requires.few c.requires.shallow c.list.ensures
+within_limits-requires-in-List c = built_or_memory c.args.frame.parts (chain c.args.frame.parts nil) c.list.result refl c.requires.few c.requires.shallow
+    c.list.ensures

@@ -15,9 +15,12 @@ returns c =
       | in-Some+else-loop-byte-test+in_ok-print_segment w ↦
           let all = take_all w.loop-byte.byte-index w.in-Some.whole.now (omega arith) in
           w.out-is ∙ w.in_ok-print_segment.ensures
-          ∙ ap (λ l. l ++ printed_segment (take c.args.used (byte_bits w.in-Some.last.now))) (w.loop-byte.invariant ∙ ap (λ l. c.extend_from_slice.new.self ++ flat_map (λ x. decimal x ++ 44 ∷ []) l) all)
-          ∙ append_assoc c.extend_from_slice.new.self (flat_map (λ x. decimal x ++ 44 ∷ []) w.in-Some.whole.now) (printed_segment (take c.args.used (byte_bits w.in-Some.last.now)))
-          ∙ ap (λ l. c.extend_from_slice.new.self ++ l) (sym (printed-bytes c.args.bytes.now w.in-Some.whole.now w.in-Some.last.now c.args.used w.in-Some.ensures.cases.0 (λ i. let fits = c.type_inv.bytes i in fits.fits) c.requires.0 c.requires.1))
+          ∙ ap (λ l. l ++ printed_segment (take c.args.used (byte_bits w.in-Some.last.now)))
+          (w.loop-byte.invariant ∙ ap (λ l. c.extend_from_slice.new.self ++ flat_map (λ x. decimal x ++ 44 ∷ []) l) all)
+          ∙ append_assoc c.extend_from_slice.new.self (flat_map (λ x. decimal x ++ 44 ∷ []) w.in-Some.whole.now)
+          (printed_segment (take c.args.used (byte_bits w.in-Some.last.now)))
+          ∙ ap (λ l. c.extend_from_slice.new.self ++ l) (sym (printed-bytes c.args.bytes.now w.in-Some.whole.now w.in-Some.last.now c.args.used
+          w.in-Some.ensures.cases.0 (λ i. let fits = c.type_inv.bytes i in fits.fits) c.requires.0 c.requires.1))
       | in_default w ↦
           w.out-is ∙ sym (append-nil c.extend_from_slice.new.self)
           ∙ ap (λ l. c.extend_from_slice.new.self ++ l) (sym (printed-no_bytes c.args.bytes.now c.args.used w.in_default.ensures.cases))

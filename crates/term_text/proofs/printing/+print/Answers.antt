@@ -30,7 +30,8 @@ print_elements-loop-place-preserved t c =
           let element = sym c.get.ensures ∙ ap option_copied w.in-Some.is in
           elim c.if-place-gt0.branch [
             | print_elements-then-place-gt0+in_ok-push v ↦
-                next_printed _ _ _ _ c.loop-place.place c.args.parts.now _ v.if-place-gt0.true element (v.out-is ∙ v.in_ok-push.ensures.ok) (w.out-is ∙ w.in_ok-print_term.ensures)
+                next_printed _ _ _ _ c.loop-place.place c.args.parts.now _ v.if-place-gt0.true element (v.out-is ∙ v.in_ok-push.ensures.ok)
+                (w.out-is ∙ w.in_ok-print_term.ensures)
                 ∙ c.loop-place.invariant
             | print_elements-else-place-gt0 v ↦
                 first_printed _ _ _ _ c.loop-place.place c.args.parts.now _ (omega arith) element v.out-is (w.out-is ∙ w.in_ok-print_term.ensures)
@@ -69,7 +70,8 @@ print_map-loop-place-preserved t c =
     elim c.match-get.branch [
       | print_map-in-Some+in_ok-print_term+in_ok-extend_from_slice-2+in_ok-print_term-2 w ↦
           let pair = sym c.get.ensures ∙ ap option_copied w.in-Some.is in
-          let printed_here = w.out-is ∙ entry_printed c.if-place-gt0.out _ _ _ w.in-Some.pair.now w.in_ok-print_term.ensures w.in_ok-extend_from_slice-2.ensures.ok w.in_ok-print_term-2.ensures in
+          let printed_here = w.out-is ∙ entry_printed c.if-place-gt0.out _ _ _ w.in-Some.pair.now w.in_ok-print_term.ensures
+          w.in_ok-extend_from_slice-2.ensures.ok w.in_ok-print_term-2.ensures in
           elim c.if-place-gt0.branch [
             | print_map-then-place-gt0+in_ok-push v ↦
                 next_part printed_entry _ _ _ c.loop-place.place c.args.pairs.now _ v.if-place-gt0.true pair (v.out-is ∙ v.in_ok-push.ensures.ok) printed_here
@@ -92,13 +94,15 @@ print_map-returns t c =
 pub print_term-print_elements-requires-in-Improper : goal.print_term-print_elements-requires-in-Improper
 print_term-print_elements-requires-in-Improper t c =
     let sound = subst IsSound c.in-Improper.is c.node.ensures.sound in
-    let less = improper_falls c.args.term.now c.in-Improper.parts c.in-Improper.tail.value (sym c.node.ensures.value ∙ ap shown c.in-Improper.is) sound.0 sound.1 in
+    let less = improper_falls c.args.term.now c.in-Improper.parts c.in-Improper.tail.value
+    (sym c.node.ensures.value ∙ ap shown c.in-Improper.is) sound.0 sound.1 in
     (omega arith, tt)
 
 pub print_term-print_term-requires : goal.print_term-print_term-requires
 print_term-print_term-requires t c =
     let sound = subst IsSound c.in-Improper.is c.node.ensures.sound in
-    let less = improper_falls c.args.term.now c.in-Improper.parts c.in-Improper.tail.value (sym c.node.ensures.value ∙ ap shown c.in-Improper.is) sound.0 sound.1 in
+    let less = improper_falls c.args.term.now c.in-Improper.parts c.in-Improper.tail.value
+    (sym c.node.ensures.value ∙ ap shown c.in-Improper.is) sound.0 sound.1 in
     let same : depth c.deref.result.now ≡ depth c.in-Improper.tail.value = ap depth c.deref.ensures in
     (omega arith, tt)
 
@@ -107,4 +111,9 @@ print_term-returns-in_ok-print_term-in-Improper t c =
     let sound = subst IsSound c.in-Improper.is c.node.ensures.sound in
     let value = ap printed (sym c.node.ensures.value ∙ ap shown c.in-Improper.is) in
     rw (value ∙ printed-improper c.in-Improper.parts c.in-Improper.tail.value sound.0 sound.1)
-    (simp append_assoc at (rw (c.in_ok-print_term-in-Improper.ensures, c.in_ok-print_elements-in-Improper.ensures, c.in_ok-push-in-Improper.ensures.ok, c.deref.ensures) at c.push-in-Improper-2.ensures.ok))
+    (simp append_assoc at (rw (
+      c.in_ok-print_term-in-Improper.ensures,
+      c.in_ok-print_elements-in-Improper.ensures,
+      c.in_ok-push-in-Improper.ensures.ok,
+      c.deref.ensures,
+    ) at c.push-in-Improper-2.ensures.ok))

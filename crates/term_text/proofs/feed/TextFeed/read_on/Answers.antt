@@ -31,7 +31,8 @@ invariant_of-self-in-None c = record {
   started = omega (arith, c.self.invariant.started);
   there = read_there c.self.inside.bytes.items _ c.self.inside.read c.in-Ok.taken c.deref.ensures.value c.self.invariant.there c.in-Ok.ensures.within;
   short = c.self.invariant.short;
-  reached = more_reached c.self.inside.bytes.items _ c.self.inside.start c.self.inside.read c.in-Ok.taken _ _ _ _ c.deref.ensures.value c.self.invariant.started c.self.invariant.reached c.in-Ok.ensures.ok;
+  reached = more_reached c.self.inside.bytes.items _ c.self.inside.start c.self.inside.read c.in-Ok.taken _ _ _ _ c.deref.ensures.value c.self.invariant.started
+      c.self.invariant.reached c.in-Ok.ensures.ok;
   order = c.in-Ok.ensures.order;
 }
 
@@ -42,7 +43,14 @@ invariant_of-self-in-Some-true c =
     record {
       started = omega arith;
       there = there;
-      short = omega (arith, length-drop c.self.inside.start items, length-drop (c.self.inside.read + c.in-Ok.taken) items, c.self.invariant.short, c.self.invariant.started, there);
+      short = omega (
+        arith,
+        length-drop c.self.inside.start items,
+        length-drop (c.self.inside.read + c.in-Ok.taken) items,
+        c.self.invariant.short,
+        c.self.invariant.started,
+        there,
+      );
       reached = fresh_reached items (c.self.inside.read + c.in-Ok.taken) _ _ c.take_stopped-term.ensures.state c.take_stopped-term.ensures.length;
       order = fresh_order _ _ c.take_stopped-term.ensures.state c.take_stopped-term.ensures.length;
     }
@@ -52,7 +60,8 @@ invariant_of-self-in-Some-false c = record {
   started = omega (arith, c.self.invariant.started);
   there = read_there c.self.inside.bytes.items _ c.self.inside.read c.in-Ok.taken c.deref.ensures.value c.self.invariant.there c.in-Ok.ensures.within;
   short = c.self.invariant.short;
-  reached = more_reached c.self.inside.bytes.items _ c.self.inside.start c.self.inside.read c.in-Ok.taken _ _ _ _ c.deref.ensures.value c.self.invariant.started c.self.invariant.reached c.in-Ok.ensures.ok;
+  reached = more_reached c.self.inside.bytes.items _ c.self.inside.start c.self.inside.read c.in-Ok.taken _ _ _ _ c.deref.ensures.value c.self.invariant.started
+      c.self.invariant.reached c.in-Ok.ensures.ok;
   order = c.in-Ok.ensures.order;
 }
 
@@ -61,7 +70,8 @@ invariant_of-self-else-is_stopped c = record {
   started = omega (arith, c.self.invariant.started);
   there = read_there c.self.inside.bytes.items _ c.self.inside.read c.in-Ok.taken c.deref.ensures.value c.self.invariant.there c.in-Ok.ensures.within;
   short = c.self.invariant.short;
-  reached = more_reached c.self.inside.bytes.items _ c.self.inside.start c.self.inside.read c.in-Ok.taken _ _ _ _ c.deref.ensures.value c.self.invariant.started c.self.invariant.reached c.in-Ok.ensures.ok;
+  reached = more_reached c.self.inside.bytes.items _ c.self.inside.start c.self.inside.read c.in-Ok.taken _ _ _ _ c.deref.ensures.value c.self.invariant.started
+      c.self.invariant.reached c.in-Ok.ensures.ok;
   order = c.in-Ok.ensures.order;
 }
 
@@ -73,7 +83,8 @@ returns-in-Some-true-clause-term c = λ t e.
     let there = read_there items _ c.self.inside.read c.in-Ok.taken c.deref.ensures.value c.self.invariant.there c.in-Ok.ensures.within in
     let le : start ≤ behind = omega (arith, c.self.invariant.started) in
     let fits : behind - start ≤ length (drop start items) = omega (arith, length-drop start items, there, le) in
-    let reached = more_reached items _ start c.self.inside.read c.in-Ok.taken _ _ _ _ c.deref.ensures.value c.self.invariant.started c.self.invariant.reached c.in-Ok.ensures.ok in
+    let reached = more_reached items _ start c.self.inside.read c.in-Ok.taken _ _ _ _ c.deref.ensures.value c.self.invariant.started c.self.invariant.reached
+    c.in-Ok.ensures.ok in
     let same : c.take_stopped-term.result ≡ t = cc in
     let whole = whole_read (take (behind - start) (drop start items)) _ _ t reached (c.take_stopped-term.ensures.term ∙ ap stopped same) in
     let stops = some_taken (take (behind - start) (drop start items)) _ _ reached (sym c.is_stopped.ensures ∙ c.if-is_stopped.true) in
@@ -110,7 +121,8 @@ returns-in-None-clause-again c = λ _.
     let items = c.self.inside.bytes.items in
     let start = c.self.inside.start in
     let behind = c.self.inside.read + c.in-Ok.taken in
-    let reached = more_reached items _ start c.self.inside.read c.in-Ok.taken _ _ _ _ c.deref.ensures.value c.self.invariant.started c.self.invariant.reached c.in-Ok.ensures.ok in
+    let reached = more_reached items _ start c.self.inside.read c.in-Ok.taken _ _ _ _ c.deref.ensures.value c.self.invariant.started c.self.invariant.reached
+    c.in-Ok.ensures.ok in
     let left = rest_left items _ start behind c.deref-then-is_stopped.ensures.value (omega (arith, c.self.invariant.started)) in
     rw (← c.self.view_is) (
       refl,
@@ -124,17 +136,20 @@ returns-in-Some-false-clause-not_yet c = λ _.
     let items = c.self.inside.bytes.items in
     let start = c.self.inside.start in
     let behind = c.self.inside.read + c.in-Ok.taken in
-    let reached = more_reached items _ start c.self.inside.read c.in-Ok.taken _ _ _ _ c.deref.ensures.value c.self.invariant.started c.self.invariant.reached c.in-Ok.ensures.ok in
+    let reached = more_reached items _ start c.self.inside.read c.in-Ok.taken _ _ _ _ c.deref.ensures.value c.self.invariant.started c.self.invariant.reached
+    c.in-Ok.ensures.ok in
     let left = rest_left items _ start behind c.deref-then-is_stopped.ensures.value (omega (arith, c.self.invariant.started)) in
     rw (← c.self.view_is)
     (subst (λ (l : List ℕ). Answers c.self.inside.finished l (Err NotYet)) (take-append-drop (behind - start) (drop start items))
     (stop_is_none c.self.inside.finished (take (behind - start) (drop start items)) (drop (behind - start) (drop start items)) _ _ reached
-    (sym c.is_stopped.ensures ∙ c.if-is_stopped.true) (ap (ends c.self.inside.finished) (sym left) ∙ sym c.is_end.ensures ∙ c.in-Some-false.is ∙ ap Some c.in-Some-false.field-0-test)))
+    (sym c.is_stopped.ensures ∙ c.if-is_stopped.true) (ap (ends c.self.inside.finished) (sym left) ∙ sym c.is_end.ensures ∙ c.in-Some-false.is
+    ∙ ap Some c.in-Some-false.field-0-test)))
 
 pub returns-after-not-self-clause-again : goal.returns-after-not-self-clause-again
 returns-after-not-self-clause-again c =
     let going : is_stopped (reader_of c.run.new.self).nest.place ≡ false = sym c.is_stopped.ensures ∙ c.if-is_stopped.false in
-    let reached = all_reached c.self.inside.bytes.items _ c.self.inside.start c.self.inside.read c.in-Ok.taken _ _ _ _ c.deref.ensures.value c.self.invariant.started c.self.invariant.there c.self.invariant.reached c.in-Ok.ensures.within c.in-Ok.ensures.ok c.in-Ok.ensures.stop going in
+    let reached = all_reached c.self.inside.bytes.items _ c.self.inside.start c.self.inside.read c.in-Ok.taken _ _ _ _ c.deref.ensures.value
+    c.self.invariant.started c.self.invariant.there c.self.invariant.reached c.in-Ok.ensures.within c.in-Ok.ensures.ok c.in-Ok.ensures.stop going in
     elim c.if-not-self.branch [
       | then-not-self w ↦ (λ _.
           rw (← c.self.view_is) (
@@ -149,7 +164,8 @@ returns-after-not-self-clause-again c =
 pub returns-after-not-self-clause-end : goal.returns-after-not-self-clause-end
 returns-after-not-self-clause-end c =
     let going : is_stopped (reader_of c.run.new.self).nest.place ≡ false = sym c.is_stopped.ensures ∙ c.if-is_stopped.false in
-    let reached = all_reached c.self.inside.bytes.items _ c.self.inside.start c.self.inside.read c.in-Ok.taken _ _ _ _ c.deref.ensures.value c.self.invariant.started c.self.invariant.there c.self.invariant.reached c.in-Ok.ensures.within c.in-Ok.ensures.ok c.in-Ok.ensures.stop going in
+    let reached = all_reached c.self.inside.bytes.items _ c.self.inside.start c.self.inside.read c.in-Ok.taken _ _ _ _ c.deref.ensures.value
+    c.self.invariant.started c.self.invariant.there c.self.invariant.reached c.in-Ok.ensures.within c.in-Ok.ensures.ok c.in-Ok.ensures.stop going in
     elim c.if-not-self.branch [
       | then-not-self w ↦ (λ e. absurd (let clash : Ok Again ≡ Ok End = sym w.result-is ∙ e in cc))
       | else-not-self+then-is_blank w ↦ (λ _.
@@ -165,7 +181,8 @@ returns-after-not-self-clause-end c =
 pub returns-after-not-self-clause-not_yet : goal.returns-after-not-self-clause-not_yet
 returns-after-not-self-clause-not_yet c =
     let going : is_stopped (reader_of c.run.new.self).nest.place ≡ false = sym c.is_stopped.ensures ∙ c.if-is_stopped.false in
-    let reached = all_reached c.self.inside.bytes.items _ c.self.inside.start c.self.inside.read c.in-Ok.taken _ _ _ _ c.deref.ensures.value c.self.invariant.started c.self.invariant.there c.self.invariant.reached c.in-Ok.ensures.within c.in-Ok.ensures.ok c.in-Ok.ensures.stop going in
+    let reached = all_reached c.self.inside.bytes.items _ c.self.inside.start c.self.inside.read c.in-Ok.taken _ _ _ _ c.deref.ensures.value
+    c.self.invariant.started c.self.invariant.there c.self.invariant.reached c.in-Ok.ensures.within c.in-Ok.ensures.ok c.in-Ok.ensures.stop going in
     elim c.if-not-self.branch [
       | then-not-self w ↦ (λ e. absurd (let clash : Ok Again ≡ Err NotYet = sym w.result-is ∙ e in cc))
       | else-not-self+then-is_blank w ↦ (λ e. absurd (let clash : Ok End ≡ Err NotYet = sym w.result-is ∙ e in cc))

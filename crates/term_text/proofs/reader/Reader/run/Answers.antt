@@ -36,11 +36,13 @@ loop-taken-preserved c =
     record {
       reached =
           subst (λ (k : ℕ). Reaches (reader_of c.args.self.now) c.args.self.now.length (take (i + 1) bytes) (reader_of c.advance.new.self) k) (sym count)
-          (subst (λ (zs : List ℕ). Reaches (reader_of c.args.self.now) c.args.self.now.length zs (reader_of c.advance.new.self) (counted c.loop-taken.self.length x)) (sym (take_more bytes i 0 h)) pushed);
+          (subst (λ (zs : List ℕ). Reaches (reader_of c.args.self.now) c.args.self.now.length zs (reader_of c.advance.new.self)
+          (counted c.loop-taken.self.length x)) (sym (take_more bytes i 0 h)) pushed);
       order = subst (λ (k : ℕ). IsOrderly (reader_of c.advance.new.self) k) (sym count) order;
     }
 
 pub returns-clause-ok : goal.returns-clause-ok
 returns-clause-ok c =
     let ended : c.loop-taken.taken ≡ length c.args.bytes.now = omega arith in
-    subst (λ (n : ℕ). Reaches (reader_of c.args.self.now) c.args.self.now.length (take n c.args.bytes.now) (reader_of c.loop-taken.self) c.loop-taken.self.length) ended c.loop-taken.invariant.reached
+    subst (λ (n : ℕ). Reaches (reader_of c.args.self.now) c.args.self.now.length (take n c.args.bytes.now) (reader_of c.loop-taken.self)
+    c.loop-taken.self.length) ended c.loop-taken.invariant.reached
