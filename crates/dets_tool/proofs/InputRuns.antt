@@ -1,12 +1,12 @@
 -- What a run has come to while its input comes, and where the input ends.
-use Rattle.std.proofs.Common.{◌≡◌, ℕ, ◌+◌, ◌<◌, ◌^◌, Bool, true, false, List, [], ◌∷◌, ◌++◌, length, length-append, take, drop, ◌==◌, Option, Some, option_map, IfSome, Result, Ok, Err, OnOk, IfErr, refl, ap, ◌∙◌, sym, subst, append_assoc, append-nil, arith}
+use Rattle.std.proofs.Common.{◌≡◌, ℕ, ◌+◌, ◌<◌, ◌^◌, Bool, true, false, List, [], ◌∷◌, ◌++◌, length, length-append, take, drop, ◌==◌, Option, Some, option_map, IfSome, Result, Ok, Err, OnOk, refl, ap, ◌∙◌, sym, subst, append_assoc, append-nil, arith}
 use Rattle.std.proofs.lemmas.List.{take-append-drop}
 use Rattle.std.proofs.lemmas.Bool.Decides.{nat_tests}
 use Rattle.dets_term.specs.TermValue.{TermValue}
 use Rattle.term_text.specs.FeedState.{FeedState}
 use Rattle.host_model.specs.Source.{Stream, after_read}
 use Rattle.host_model.specs.Host.{Shown}
-use Rattle.dets_machine.specs.MachineValue.{MachineValue}
+use Rattle.dets_tool.specs.declared.script.Script.{Script}
 use Rattle.dets_tool.specs.declared.status.Status.{Status}
 use Rattle.dets_tool.specs.declared.status.Status.TheVariants.{Done, Input, WordsRefused, SourceFault, Output, Memory, NotYet}
 use Rattle.dets_tool.specs.declared.status.InputWhy.TheVariants.{TooMuch}
@@ -15,7 +15,7 @@ use Rattle.dets_tool.specs.declared.input_feed.PullFault.TheVariants.{SourceFaul
 use Rattle.dets_tool.specs.FeedValue.{FeedValue, GivesPiece, Ends, Pulled}
 use Rattle.dets_tool.specs.Status.{status_of_pull, status_of_run}
 use Rattle.dets_tool.specs.Run.{Ran}
-use Rattle.dets_tool.specs.Serving.{Standing, standing, with_piece, Serves, IsUnserved, Stops, at_command, at_text, at_memory, Breaks, IsWaiting}
+use Rattle.dets_tool.specs.Serving.{Standing, standing, with_piece, Serves, IsUnserved, Stops, at_command, at_text, at_memory, Breaks, IsWaiting, ServesOrBreaks}
 use Rattle.dets_tool.proofs.Serving.{Serves-none, Serves-append, Serves-more, Breaks-behind}
 use Rattle.dets_tool.proofs.Runs.{taken, took, took_all, ran_source_fault, ran_too_much, ran_done, ran_memory, ran_break}
 
@@ -139,16 +139,16 @@ no_input stream now said e f =
     (ran_memory false [] stream.left stream.left said said (taken [] said) (Serves-none false (taken [] said)) refl (took [] stream.left stream.left refl (omega arith)))
 
 -- the last commands, behind the end of the input
-pub input_ends : (result : Result Unit Status) (input : List ℕ) (old new : FeedValue) (before after : Option Stream) (said : Option (List ℕ)) (text closed : FeedState) (machine : MachineValue) (replied : ℕ) (host : Shown) (then : Standing)
-    → HasTaken input old.room before said (standing text machine replied host) → Ends old new before after → closed ≡ record text { finished = true }
-    → OnOk result (Serves closed.finished (standing closed machine replied host) then) → OnOk result (IsWaiting closed.finished then.left) → IfErr result (λ (status : Status). Breaks status closed.finished (standing closed machine replied host) then.said)
-    → Ran (status_of_run result) input after said then.said
-input_ends (Ok done) input old new before after said text closed machine replied host then h p e s w b =
-    input_done input old new before after said (standing text machine replied host) then h p
-    (subst (λ (t : FeedState). Serves t.finished (standing t machine replied host) then) e s) (subst (λ (t : FeedState). IsWaiting t.finished then.left) e w)
-input_ends (Err status) input old new before after said text closed machine replied host then h p e s w b =
-    input_breaks status input old new before after said then.said (standing text machine replied host) h p
-    (subst (λ (t : FeedState). Breaks status t.finished (standing t machine replied host) then.said) e b)
+pub input_ends : (result : Result Unit Status) (input : List ℕ) (old new : FeedValue) (before after : Option Stream) (said : Option (List ℕ)) (script then : Script) (closed : FeedState) (host now : Shown)
+    → HasTaken input old.room before said (standing script host) → Ends old new before after → closed ≡ record script.text { finished = true }
+    → OnOk result (IsWaiting closed.finished then.text.left) → ServesOrBreaks result closed.finished (standing (record script { text = closed }) host) then now
+    → Ran (status_of_run result) input after said now.said
+input_ends (Ok done) input old new before after said script then closed host now h p e w s =
+    input_done input old new before after said (standing script host) (standing then now) h p
+    (subst (λ (t : FeedState). Serves t.finished (standing (record script { text = t }) host) (standing then now)) e s.served) (subst (λ (t : FeedState). IsWaiting t.finished then.text.left) e w)
+input_ends (Err status) input old new before after said script then closed host now h p e w s =
+    input_breaks status input old new before after said now.said (standing script host) h p
+    (subst (λ (t : FeedState). Breaks status t.finished (standing (record script { text = t }) host) now.said) e s.breaks)
 
 -- what ends a run at a command or a text
 abbrev EndsService : Status → Type 0
@@ -163,7 +163,7 @@ EndsService (NotYet number) = Unit {0}
 pub ends_service : (status : Status) (finished : Bool) (old : Standing) (now : Option (List ℕ)) → Breaks status finished old now → EndsService status
 ends_service status finished old now b = by_stop status b.stops
   where
-    unserved : (status : Status) (t : TermValue) → IsUnserved status b.here.state b.here.replied t b.here.said now → EndsService status
+    unserved : (status : Status) (t : TermValue) → IsUnserved status b.here t now → EndsService status
     unserved Done t u = u
     unserved (Input offset why) t u = u
     unserved WordsRefused t u = u

@@ -195,7 +195,7 @@ no_reply : (state : State) (t : TermValue) (others : List TermValue) → step st
 no_reply state t others e = ap (λ o. option_map_or (λ (served : TermValue × State). served.0 ∷ replies served.1 others) o []) e
 
 ran_unserved : (status : Status) (finished : Bool) (bytes left input : List ℕ) (said now : Option (List ℕ)) (here : Standing) → Serves finished (taken bytes said) here → (t : TermValue) (n : ℕ) → IsNext finished here.left t n
-    → IsUnserved status here.state here.replied t here.said now → Took finished bytes [] left input → Ran status input (Some (record { left = left; ended = finished })) said now
+    → IsUnserved status here t now → Took finished bytes [] left input → Ran status input (Some (record { left = left; ended = finished })) said now
 ran_unserved Done finished bytes left input said now here s t n next u i = absurd u
 ran_unserved (Input offset why) finished bytes left input said now here s t n next u i = absurd u
 ran_unserved WordsRefused finished bytes left input said now here s t n next u i = absurd u

@@ -1,5 +1,5 @@
 -- How a run goes on, step by step.
-use Rattle.std.proofs.Common.{◌≡◌, ℕ, ◌+◌, Bool, false, List, [], ◌∷◌, ◌++◌, length, length-append, Option, Some, None, option_map, refl, ap, ◌∙◌, sym, subst, append_assoc, append-nil, arith}
+use Rattle.std.proofs.Common.{◌≡◌, ℕ, Bool, false, List, [], ◌∷◌, ◌++◌, length, length-append, Option, Some, None, option_map, refl, ap, ◌∙◌, sym, subst, append_assoc, append-nil, arith}
 use Rattle.std.specs.Option.{option_map_or}
 use Rattle.dets_term.specs.TermValue.{TermValue}
 use Rattle.term_text.specs.FeedState.{FeedState}
@@ -8,11 +8,11 @@ use Rattle.term_text.specs.Script.{Placed, AreNext, behind}
 use Rattle.term_text.proofs.Scripts.{AreNext-append, behind-append, AreNext-more}
 use Rattle.run_model.specs.State.{State}
 use Rattle.run_model.specs.Step.{replies}
+use Rattle.dets_tool.specs.declared.script.Script.{Script}
 use Rattle.dets_tool.specs.declared.status.Status.{Status}
+use Rattle.dets_tool.specs.declared.status.Status.TheVariants.{Done, Input, WordsRefused, SourceFault, Output, Memory, NotYet}
 use Rattle.dets_tool.specs.Run.{reply_line, reply_text, terms_of}
-use Rattle.host_model.specs.Host.{Shown}
-use Rattle.dets_machine.specs.MachineValue.{MachineValue}
-use Rattle.dets_tool.specs.Serving.{Standing, standing, Serves, Replies, Breaks}
+use Rattle.dets_tool.specs.Serving.{Standing, Serves, Replies, IsUnserved, Breaks, IsReady}
 
 -- ---- output
 
@@ -51,8 +51,11 @@ Serves-none finished here = record {
 }
 
 -- where no text was taken
-pub Serves-same : (finished : Bool) (old new : FeedState) (machine : MachineValue) (replied : ℕ) (host : Shown) → new ≡ old → Serves finished (standing old machine replied host) (standing new machine replied host)
-Serves-same finished old new machine replied host e = rw e (Serves-none finished (standing old machine replied host))
+pub Serves-same : (finished : Bool) (left : List ℕ) (here : Standing) → left ≡ here.left → Serves finished here (record here { left = left })
+Serves-same finished left here e = rw e (Serves-none finished here)
+
+pub IsReady-same : (finished : Bool) (text : FeedState) (script : Script) → text ≡ script.text → IsReady finished script → IsReady finished (record script { text = text })
+IsReady-same finished text script e r = rw e r
 
 pub Serves-append : (finished : Bool) (a b c : Standing) → Serves finished a b → Serves finished b c → Serves finished a c
 Serves-append finished a b c s t = record {
@@ -71,17 +74,17 @@ Serves-append finished a b c s t = record {
       ∙ ap (λ l. option_map (λ (output : List ℕ). output ++ l) a.said) (sym (reply_text-append s.answers t.answers));
 }
 
--- one command more
-pub Serves-one : (finished : Bool) (old new : Standing) (t : TermValue) (taken : ℕ) → IsNext finished old.left t taken → Replies old.state new.state t old.said new.said
-    → new.left ≡ behind (record { term = t; bytes = taken } ∷ []) old.left → new.replied ≡ old.replied + 1 → Serves finished old new
-Serves-one finished old new t taken n r left replied = record {
+-- one command more, behind its text
+pub Serves-one : (finished : Bool) (old new : Standing) (left : List ℕ) (t : TermValue) (taken : ℕ) → IsNext finished old.left t taken
+    → left ≡ behind (record { term = t; bytes = taken } ∷ []) old.left → Replies (record old { left = left }) new t → Serves finished old new
+Serves-one finished old new left t taken n e r = record {
   commands = record { term = t; bytes = taken } ∷ [];
   answers = r.reply ∷ [];
   next = (n, tt);
-  left = left;
+  left = r.left ∙ e;
   served = λ more. ap (λ o. option_map_or (λ (served : TermValue × State). served.0 ∷ replies served.1 more) o []) r.step;
   all = refl;
-  replied = replied;
+  replied = r.replied;
   said = r.said ∙ ap (λ l. option_map (λ (output : List ℕ). output ++ l) old.said) (sym (append-nil (reply_line r.reply)));
 }
 
@@ -99,6 +102,28 @@ Serves-more finished a b more s =
       said = s.said;
     }
 
+-- why a command was not served does not depend on the text
+pub IsUnserved-left : (status : Status) (here : Standing) (left : List ℕ) (t : TermValue) (now : Option (List ℕ))
+    → IsUnserved status (record here { left = left }) t now → IsUnserved status here t now
+IsUnserved-left Done here left t now u = u
+IsUnserved-left (Input offset why) here left t now u = u
+IsUnserved-left WordsRefused here left t now u = u
+IsUnserved-left SourceFault here left t now u = u
+IsUnserved-left Output here left t now u = u
+IsUnserved-left Memory here left t now u = u
+IsUnserved-left (NotYet number) here left t now u = u
+
 -- a run that breaks behind commands that were served
 pub Breaks-behind : (status : Status) (finished : Bool) (a b : Standing) (now : Option (List ℕ)) → Serves finished a b → Breaks status finished b now → Breaks status finished a now
 Breaks-behind status finished a b now s f = record { here = f.here; served = Serves-append finished a b f.here s f.served; stops = f.stops }
+
+-- what follows is told of the input as it stands then, which goes on or has ended as before
+pub Serves-on : (finished then : Bool) (a b c : Standing) → then ≡ finished → Serves finished a b → Serves then b c → Serves finished a c
+Serves-on finished then a b c e s t = Serves-append finished a b c s (subst (λ (f : Bool). Serves f b c) e t)
+
+pub Breaks-on : (status : Status) (finished then : Bool) (a b : Standing) (now : Option (List ℕ)) → then ≡ finished → Serves finished a b
+    → Breaks status then b now → Breaks status finished a now
+Breaks-on status finished then a b now e s f = Breaks-behind status finished a b now s (subst (λ (g : Bool). Breaks status g b now) e f)
+
+pub IsReady-on : (finished then : Bool) (script : Script) → then ≡ finished → IsReady then script → IsReady finished script
+IsReady-on finished then script e r = subst (λ (f : Bool). IsReady f script) e r

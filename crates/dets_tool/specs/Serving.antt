@@ -1,15 +1,15 @@
 -- What happens while a run goes on: commands are taken from the front of some bytes and served.
-use Rattle.std.specs.Prelude.{◌≡◌, ℕ, ◌+◌, Bool, List, ◌++◌, length, Option, Some, None, option_map, Ok, Err, ◌⊎◌}
+use Rattle.std.specs.Prelude.{◌≡◌, ℕ, ◌+◌, ◌≤◌, Bool, false, List, ◌++◌, length, Option, Some, None, option_map, Result, Ok, Err, OnOk, IfErr, IsErrOf, ◌⊎◌}
 use Rattle.dets_term.specs.TermValue.{TermValue}
-use Rattle.term_text.specs.FeedState.{FeedState}
 use Rattle.term_text.specs.Next.{IsNext}
 use Rattle.term_text.specs.Script.{Placed, AreNext, behind, Answers}
 use Rattle.etf_model.specs.declared.fed.Fed.TheVariants.{Again, End}
 use Rattle.term_text.specs.declared.feed.TextFault.TheVariants.{NotYet as NotYetText}
 use Rattle.run_model.specs.State.{State}
 use Rattle.run_model.specs.Step.{step, replies}
+use Rattle.host_model.specs.Counts.{Rose}
 use Rattle.host_model.specs.Host.{Shown, SaysFront}
-use Rattle.dets_machine.specs.MachineValue.{MachineValue}
+use Rattle.dets_tool.specs.declared.script.Script.{Script}
 use Rattle.dets_tool.specs.declared.status.Status.{Status}
 use Rattle.dets_tool.specs.declared.status.Status.TheVariants.{Done, Input, WordsRefused, SourceFault, Output, Memory, NotYet}
 use Rattle.dets_tool.specs.Run.{reply_line, reply_text, terms_of}
@@ -24,8 +24,8 @@ pub record Standing : Type 0 where
   -- what was said, where the host tells that
   pub said : Option (List ℕ)
 
-abbrev pub standing : FeedState → MachineValue → ℕ → Shown → Standing
-standing text machine replied host = record { left = text.left; state = machine.state; replied = replied; said = host.said }
+abbrev pub standing : Script → Shown → Standing
+standing script host = record { left = script.text.left; state = script.machine.state; replied = script.replied; said = host.said }
 
 -- with one more piece of the input
 abbrev pub with_piece : List ℕ → Standing → Standing
@@ -43,25 +43,28 @@ pub record Serves (finished : Bool) (old new : Standing) : Type 0 where
   pub said : new.said ≡ option_map (λ (output : List ℕ). output ++ reply_text answers) old.said
 
 -- a command was served and its reply said
-pub record Replies (old new : State) (command : TermValue) (before now : Option (List ℕ)) : Type 0 where
+pub record Replies (old new : Standing) (command : TermValue) : Type 0 where
   pub reply : TermValue
-  pub step : step old command ≡ Some (reply, new)
-  pub said : now ≡ option_map (λ (output : List ℕ). output ++ reply_line reply) before
+  pub step : step old.state command ≡ Some (reply, new.state)
+  pub left : new.left ≡ old.left
+  pub replied : new.replied ≡ old.replied + 1
+  pub said : new.said ≡ option_map (λ (output : List ℕ). output ++ reply_line reply) old.said
 
--- why a command was not served: it is not built, its reply was said in part, or there was no memory
-abbrev pub IsUnserved : Status → State → ℕ → TermValue → Option (List ℕ) → Option (List ℕ) → Type 0
-IsUnserved Done state replied command said now = ⊥
-IsUnserved (Input offset why) state replied command said now = ⊥
-IsUnserved WordsRefused state replied command said now = ⊥
-IsUnserved SourceFault state replied command said now = ⊥
-IsUnserved Output state replied command said now =
-    (reply : TermValue) × ((after : State) × (step state command ≡ Some (reply, after)) × SaysFront (reply_line reply) said now)
-IsUnserved Memory state replied command said now = now ≡ said
-IsUnserved (NotYet number) state replied command said now = (number ≡ replied) × (step state command ≡ None) × (now ≡ said)
+-- why a command was not served from here: it is not built, its reply was said in part, or there was no memory
+abbrev pub IsUnserved : Status → Standing → TermValue → Option (List ℕ) → Type 0
+IsUnserved Done here command now = ⊥
+IsUnserved (Input offset why) here command now = ⊥
+IsUnserved WordsRefused here command now = ⊥
+IsUnserved SourceFault here command now = ⊥
+IsUnserved Output here command now =
+    (reply : TermValue) × ((after : State) × (step here.state command ≡ Some (reply, after)) × SaysFront (reply_line reply) here.said now)
+IsUnserved Memory here command now = now ≡ here.said
+IsUnserved (NotYet number) here command now = (number ≡ here.replied) × (step here.state command ≡ None) × (now ≡ here.said)
 
 -- Why no more is served from here: the next command was not, or there is none and never will be, or there was no memory.
 pub data Stops (finished : Bool) (here : Standing) (now : Option (List ℕ)) : Status → Type 0 where
-  at_command : (status : Status) (t : TermValue) (taken : ℕ) → IsNext finished here.left t taken → IsUnserved status here.state here.replied t here.said now → Stops finished here now status
+  at_command : (status : Status) (t : TermValue) (taken : ℕ) → IsNext finished here.left t taken → IsUnserved status here t now
+      → Stops finished here now status
   at_text : Answers finished here.left (Err NotYetText) → now ≡ here.said → Stops finished here now (NotYet here.replied)
   at_memory : now ≡ here.said → Stops finished here now Memory
 
@@ -74,3 +77,24 @@ pub record Breaks (status : Status) (finished : Bool) (old : Standing) (now : Op
 -- no command is left: more input is needed, or there is none
 abbrev pub IsWaiting : Bool → List ℕ → Type 0
 IsWaiting finished left = Answers finished left (Ok Again) ⊎ Answers finished left (Ok End)
+
+-- a script that goes on
+pub record IsReady (finished : Bool) (script : Script) : Type 0 where
+  pub at_end : script.text.finished ≡ finished
+  -- no text was refused
+  pub not_refused : script.text.refused ≡ false
+  -- no command was without memory
+  pub not_starved : script.machine.starved ≡ false
+  -- each command that was replied to took a byte at least
+  pub counted : script.replied ≤ script.text.offset
+
+-- What a call that serves commands comes to: they were served and the script goes on, or the status says why not.
+pub record ServesOrBreaks {A : Type 0} (result : Result A Status) (finished : Bool) (old : Standing) (new : Script) (host : Shown) : Type 0 where
+  pub served : OnOk result (Serves finished old (standing new host))
+  pub ready : OnOk result (IsReady finished new)
+  pub breaks : IfErr result (λ status. Breaks status finished old host.said)
+
+-- a call that says output: it answers that this failed only where the count of faults rose, and the count never falls
+pub record TellsFaults {A : Type 0} (result : Result A Status) (old new : Shown) : Type 0 where
+  pub output : IsErrOf result Output → Rose old.out_faults new.out_faults
+  pub never_falls : old.out_faults ≤ new.out_faults

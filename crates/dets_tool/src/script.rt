@@ -1,16 +1,15 @@
 //! A script of commands, run as its input comes.
-ghost use Rattle.std.specs.Prelude.{◌≡◌, ◌≢◌, ◌≤◌, ◌<◌, ◌+◌, ◌^◌, [], ◌++◌, length, true, false, Some, OnOk, IfErr, IsErrOf, ◌⊎◌};
+ghost use Rattle.std.specs.Prelude.{◌≡◌, ◌≢◌, ◌<◌, ◌+◌, ◌^◌, [], length, true, false, Some, OnOk, IfOk, IfErr, IsErrOf, ◌⊎◌};
 ghost use Rattle.host_model.specs.Counts.{Rose};
 ghost use Rattle.host_model.specs.Source.{Stream};
-ghost use Rattle.term_text.specs.FeedState.{FeedState, total};
+ghost use Rattle.term_text.specs.FeedState.{total};
 ghost use Rattle.run_model.specs.State.{first_state};
 ghost use Rattle.dets_tool.specs.Status.{status_of_pull, status_of_run};
-ghost use Rattle.dets_tool.specs.Run.{Ran};
-ghost use Rattle.dets_tool.specs.Serving.{standing, with_piece, Serves, Replies, IsUnserved, Breaks, IsWaiting};
+ghost use Rattle.dets_tool.specs.Run.{Ran, reply_line};
 
 use crate::{InputFeed, InputWhy, Memory, Piece, PullFault, Status};
 use dets_machine::{Machine, Stop};
-use dets_term::Term;
+use dets_term::{ByteList, Term};
 use host_model::{Host, Source};
 use std::alloc::Global;
 use term_text::{Fed, TextFault, TextFeed, print};
@@ -56,6 +55,8 @@ pub(crate) fn run<S: Source, H: Host>(alloc: Global, source: &mut S, host: &mut 
 }
 
 impl Script {
+    ghost use Rattle.dets_tool.specs.Serving.{standing, with_piece, IsReady, Replies, IsUnserved, IsWaiting, ServesOrBreaks, TellsFaults};
+
     fn new(alloc: Global) -> Script
         ensures text { result.text ≡ record { left = []; offset = 0; finished = false; refused = false } }
         ensures machine { result.machine ≡ record { state = first_state; starved = false } }
@@ -95,18 +96,12 @@ impl Script {
     /// Serves the commands whose text is whole with one more piece of the input.
     fn serve_piece<H: Host>(&mut self, host: &mut H, piece: &[u8]) -> Result<(), Status>
         requires short { total self.old.text + length piece.now < 2 ^ 63 }
-        requires counted { self.old.replied ≤ self.old.text.offset }
-        requires going { (self.old.text.finished ≡ false) × (self.old.text.refused ≡ false) × (self.old.machine.starved ≡ false) }
-        ensures ok { OnOk result (Serves false (with_piece piece.now (standing self.old.text self.old.machine self.old.replied (H.shows host.old)))
-            (standing self.new.text self.new.machine self.new.replied (H.shows host.new))) }
+        requires ready { IsReady false self.old }
+        ensures served { ServesOrBreaks result false (with_piece piece.now (standing self.old (H.shows host.old)))
+            self.new (H.shows host.new) }
         ensures waiting { OnOk result (IsWaiting false self.new.text.left) }
-        ensures going { OnOk result ((self.new.text.finished ≡ false) × (self.new.text.refused ≡ false) × (self.new.machine.starved ≡ false)) }
-        ensures breaks { IfErr result (λ status. Breaks status false
-            (with_piece piece.now (standing self.old.text self.old.machine self.old.replied (H.shows host.old))) (H.shows host.new).said) }
-        ensures output { IsErrOf result Status.Output → Rose (H.shows host.old).out_faults (H.shows host.new).out_faults }
-        ensures never_falls { (H.shows host.old).out_faults ≤ (H.shows host.new).out_faults }
-        ensures text { OnOk result (total self.new.text ≡ total self.old.text + length piece.now) }
-        ensures counted { OnOk result (self.new.replied ≤ self.new.text.offset) }
+        ensures fed { OnOk result (total self.new.text ≡ total self.old.text + length piece.now) }
+        ensures faults { TellsFaults result (H.shows host.old) (H.shows host.new) }
     {
         self.text.feed(piece)?;
         self.serve_whole(host)
@@ -115,18 +110,12 @@ impl Script {
     /// Serves the commands whose text is whole.
     fn serve_whole<H: Host>(&mut self, host: &mut H) -> Result<(), Status>
         requires short { total self.old.text < 2 ^ 63 }
-        requires counted { self.old.replied ≤ self.old.text.offset }
-        requires going { (self.old.text.refused ≡ false) × (self.old.machine.starved ≡ false) }
-        ensures ok { OnOk result (Serves self.old.text.finished (standing self.old.text self.old.machine self.old.replied (H.shows host.old))
-            (standing self.new.text self.new.machine self.new.replied (H.shows host.new))) }
+        requires ready { IsReady self.old.text.finished self.old }
+        ensures served { ServesOrBreaks result self.old.text.finished (standing self.old (H.shows host.old))
+            self.new (H.shows host.new) }
         ensures waiting { OnOk result (IsWaiting self.old.text.finished self.new.text.left) }
-        ensures going { OnOk result ((self.new.text.refused ≡ false) × (self.new.machine.starved ≡ false)) }
-        ensures breaks { IfErr result (λ status. Breaks status self.old.text.finished
-            (standing self.old.text self.old.machine self.old.replied (H.shows host.old)) (H.shows host.new).said) }
-        ensures output { IsErrOf result Status.Output → Rose (H.shows host.old).out_faults (H.shows host.new).out_faults }
-        ensures never_falls { (H.shows host.old).out_faults ≤ (H.shows host.new).out_faults }
-        ensures text { (total self.new.text ≡ total self.old.text) × (self.new.text.finished ≡ self.old.text.finished) }
-        ensures counted { OnOk result (self.new.replied ≤ self.new.text.offset) }
+        ensures keeps { (total self.new.text ≡ total self.old.text) × (self.new.text.finished ≡ self.old.text.finished) }
+        ensures faults { TellsFaults result (H.shows host.old) (H.shows host.new) }
     {
         while self.serve_next(host)? {}
         Ok(())
@@ -135,19 +124,13 @@ impl Script {
     /// Serves the next command where its text is whole, and says whether there was one.
     fn serve_next<H: Host>(&mut self, host: &mut H) -> Result<bool, Status>
         requires short { total self.old.text < 2 ^ 63 }
-        requires counted { self.old.replied ≤ self.old.text.offset }
-        requires going { (self.old.text.refused ≡ false) × (self.old.machine.starved ≡ false) }
-        ensures served { OnOk result (Serves self.old.text.finished (standing self.old.text self.old.machine self.old.replied (H.shows host.old))
-            (standing self.new.text self.new.machine self.new.replied (H.shows host.new))) }
+        requires ready { IsReady self.old.text.finished self.old }
+        ensures served { ServesOrBreaks result self.old.text.finished (standing self.old (H.shows host.old))
+            self.new (H.shows host.new) }
         ensures waiting { result ≡ Ok false → IsWaiting self.old.text.finished self.new.text.left }
-        ensures going { OnOk result ((self.new.text.refused ≡ false) × (self.new.machine.starved ≡ false)) }
         ensures shorter { result ≡ Ok true → length self.new.text.left < length self.old.text.left }
-        ensures breaks { IfErr result (λ status. Breaks status self.old.text.finished
-            (standing self.old.text self.old.machine self.old.replied (H.shows host.old)) (H.shows host.new).said) }
-        ensures output { IsErrOf result Status.Output → Rose (H.shows host.old).out_faults (H.shows host.new).out_faults }
-        ensures never_falls { (H.shows host.old).out_faults ≤ (H.shows host.new).out_faults }
-        ensures text { (total self.new.text ≡ total self.old.text) × (self.new.text.finished ≡ self.old.text.finished) }
-        ensures counted { OnOk result (self.new.replied ≤ self.new.text.offset) }
+        ensures keeps { (total self.new.text ≡ total self.old.text) × (self.new.text.finished ≡ self.old.text.finished) }
+        ensures faults { TellsFaults result (H.shows host.old) (H.shows host.new) }
     {
         match self.text.next() {
             Ok(Fed::Term(command)) => {
@@ -163,24 +146,20 @@ impl Script {
 
     /// Serves one command, and puts its reply with a full stop and a line end.
     fn serve<H: Host>(&mut self, host: &mut H, command: &Term) -> Result<(), Status>
-        requires counted { self.old.replied < self.old.text.offset }
-        requires short { self.old.text.offset < 2 ^ 63 }
-        requires going { self.old.machine.starved ≡ false }
-        ensures ok { OnOk result (Replies self.old.machine.state self.new.machine.state command.now (H.shows host.old).said (H.shows host.new).said) }
-        ensures going { OnOk result ((self.new.replied ≡ self.old.replied + 1) × (self.new.machine.starved ≡ false)) }
-        ensures unserved { IfErr result (λ status. IsUnserved status self.old.machine.state self.old.replied command.now
-            (H.shows host.old).said (H.shows host.new).said) }
-        ensures output { IsErrOf result Status.Output → Rose (H.shows host.old).out_faults (H.shows host.new).out_faults }
-        ensures never_falls { (H.shows host.old).out_faults ≤ (H.shows host.new).out_faults }
+        requires room { self.old.replied < 2 ^ 63 }
+        requires not_starved { self.old.machine.starved ≡ false }
+        ensures served { OnOk result (Replies (standing self.old (H.shows host.old)) (standing self.new (H.shows host.new)) command.now) }
+        ensures unserved { IfErr result (λ status. IsUnserved status (standing self.old (H.shows host.old)) command.now (H.shows host.new).said) }
+        ensures not_starved { OnOk result (self.new.machine.starved ≡ false) }
         ensures text { self.new.text ≡ self.old.text }
+        ensures faults { TellsFaults result (H.shows host.old) (H.shows host.new) }
     {
         let reply = match self.machine.step(host, command) {
             Ok(reply) => reply,
             Err(Stop::NotYet) => return Err(Status::NotYet(self.replied)),
             Err(Stop::Memory) => return Err(Status::Memory),
         };
-        let mut line = print(self.alloc, &reply)?;
-        line.extend_from_slice(b".\n")?;
+        let line = line_of_reply(self.alloc, &reply)?;
         if host.put(line.as_slice()).is_err() {
             return Err(Status::Output);
         }
@@ -199,4 +178,13 @@ impl Script {
             _ => end,
         }
     }
+}
+
+/// The text of a reply: its printed form, a full stop and a line end.
+fn line_of_reply(alloc: Global, reply: &Term) -> Result<ByteList, Memory>
+    ensures { IfOk result (λ line. line ≡ reply_line reply.now) }
+{
+    let mut line = print(alloc, reply)?;
+    line.extend_from_slice(b".\n")?;
+    Ok(line)
 }

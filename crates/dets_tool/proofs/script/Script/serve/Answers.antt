@@ -1,4 +1,4 @@
-use Rattle.std.proofs.Common.{◌≡◌, ◌++◌, Result, Ok, Err, true, ℕ, List, codes, ap, ◌∙◌, subst, OnErr}
+use Rattle.std.proofs.Common.{◌≡◌, Result, Ok, Err, true, ℕ, List, ◌∙◌, subst, OnErr}
 use Rattle.std.specs.Result.{is_err}
 use Rattle.host_model.specs.Host.{SaysFront}
 use Rattle.dets_tool.specs.Run.{reply_line}
@@ -9,14 +9,13 @@ failed (Ok x) e h = cc
 failed (Err x) e h = h
 
 pub returns-then-is_err-clause-unserved : goal.returns-then-is_err-clause-unserved
-returns-then-is_err-clause-unserved g c =
-    let line = c.as_slice.ensures ∙ c.in_ok-extend_from_slice.ensures.ok ∙ ap (λ (l : List ℕ). l ++ codes ".\n") c.in_ok-line.ensures in (
-      c.in-Ok.reply,
-      (
-        c.step.new.self.state,
-        c.in-Ok.ensures.ok,
-        subst (λ h. SaysFront (reply_line c.in-Ok.reply) (g.H.Host.shows h).said (g.H.Host.shows c.put.new.self).said) c.step.ensures.host
-            (subst (λ (l : List ℕ). SaysFront l (g.H.Host.shows c.step.new.host).said (g.H.Host.shows c.put.new.self).said) line
-            (failed c.put.result c.if-is_err.ensures.value c.put.ensures.front)),
-      ),
-    )
+returns-then-is_err-clause-unserved g c = (
+  c.in-Ok.reply,
+  (
+    c.step.new.self.state,
+    c.in-Ok.ensures.ok,
+    subst (λ h. SaysFront (reply_line c.in-Ok.reply) (g.H.Host.shows h).said (g.H.Host.shows c.put.new.self).said) c.step.ensures.host
+        (subst (λ (l : List ℕ). SaysFront l (g.H.Host.shows c.step.new.host).said (g.H.Host.shows c.put.new.self).said) (c.as_slice.ensures ∙ c.in_ok-line.ensures)
+        (failed c.put.result c.if-is_err.ensures.value c.put.ensures.front)),
+  ),
+)

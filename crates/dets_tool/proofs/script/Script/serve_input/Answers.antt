@@ -23,12 +23,12 @@ loop-input-init g c =
     record {
       budget = omega (arith, room, ap total c.requires.text);
       open_input = ap (λ (f : FeedValue). f.state) c.in_ok-input.ensures;
-      going = (
-        ap (λ (t : FeedState). t.finished) c.requires.text,
-        ap (λ (t : FeedState). t.refused) c.requires.text,
-        ap (λ (m : MachineValue). m.starved) c.requires.machine,
-      );
-      counted = omega (arith, c.requires.replied);
+      ready = record {
+        at_end = ap (λ (t : FeedState). t.finished) c.requires.text;
+        not_refused = ap (λ (t : FeedState). t.refused) c.requires.text;
+        not_starved = ap (λ (m : MachineValue). m.starved) c.requires.machine;
+        counted = omega (arith, c.requires.replied);
+      };
       waiting = inl (subst (λ (t : FeedState). Answers false t.left (Ok Again)) (sym c.requires.text) nothing_fed);
       taken = λ stream told ended. rw (c.requires.text, c.requires.machine, c.requires.replied) (taken_none stream _ _ _ told ended room);
       source_faults = omega arith;
@@ -48,17 +48,16 @@ loop-input-preserved g c =
     = subst (λ (a : Piece). Pulled (Ok a) c.loop-input.input c.pull.new.self (g.S.Source.told c.loop-input.source) (g.S.Source.told c.pull.new.source)) c.in-Bytes.is
     (c.in_ok-pull.ensures.reads c.loop-input.invariant.open_input) in
     record {
-      budget = omega (arith, c.loop-input.invariant.budget, piece.room, c.in_ok-serve_piece.ensures.text, ap length c.piece.ensures);
+      budget = omega (arith, c.loop-input.invariant.budget, piece.room, c.in_ok-serve_piece.ensures.fed, ap length c.piece.ensures);
       open_input = piece.goes_on;
-      going = c.in_ok-serve_piece.ensures.going;
-      counted = c.in_ok-serve_piece.ensures.counted;
+      ready = c.in_ok-serve_piece.ensures.served.ready;
       waiting = c.in_ok-serve_piece.ensures.waiting;
       taken = λ stream told ended.
           taken_piece stream.left _ _ _ _ _ _ _ (c.loop-input.invariant.taken stream told ended) piece
-          (subst (λ (l : List ℕ). Serves false (with_piece l (standing c.loop-input.self.text c.loop-input.self.machine c.loop-input.self.replied (g.H.Host.shows c.loop-input.host)))
-          (standing c.serve_piece.new.self.text c.serve_piece.new.self.machine c.serve_piece.new.self.replied (g.H.Host.shows c.serve_piece.new.host))) c.piece.ensures c.in_ok-serve_piece.ensures.ok);
+          (subst (λ (l : List ℕ). Serves false (with_piece l (standing c.loop-input.self (g.H.Host.shows c.loop-input.host)))
+          (standing c.serve_piece.new.self (g.H.Host.shows c.serve_piece.new.host))) c.piece.ensures c.in_ok-serve_piece.ensures.served.served);
       source_faults = omega (arith, c.loop-input.invariant.source_faults, c.pull.ensures.never_falls);
-      out_faults = omega (arith, c.loop-input.invariant.out_faults, c.serve_piece.ensures.never_falls);
+      out_faults = omega (arith, c.loop-input.invariant.out_faults, c.serve_piece.ensures.faults.never_falls);
     }
 
 pub returns-in_err-serve_piece-clause-ran : goal.returns-in_err-serve_piece-clause-ran
@@ -69,21 +68,20 @@ returns-in_err-serve_piece-clause-ran g c = λ stream told ended.
     (c.in_ok-pull.ensures.reads c.loop-input.invariant.open_input) in
     rw (p.1, p.2)
     (piece_breaks c.in_err-serve_piece.field-0.0 stream.left _ _ _ _ _ _ _ (c.loop-input.invariant.taken stream told ended) piece
-    (subst (λ (l : List ℕ). Breaks c.in_err-serve_piece.field-0.0 false (with_piece l (standing c.loop-input.self.text c.loop-input.self.machine c.loop-input.self.replied (g.H.Host.shows c.loop-input.host))) (g.H.Host.shows c.serve_piece.new.host).said) c.piece.ensures
-    c.in_err-serve_piece.ensures.breaks))
+    (subst (λ (l : List ℕ). Breaks c.in_err-serve_piece.field-0.0 false (with_piece l (standing c.loop-input.self (g.H.Host.shows c.loop-input.host))) (g.H.Host.shows c.serve_piece.new.host).said) c.piece.ensures
+    c.in_err-serve_piece.ensures.served.breaks))
 
 pub returns-in_err-serve_piece-clause-source_fault : goal.returns-in_err-serve_piece-clause-source_fault
 returns-in_err-serve_piece-clause-source_fault g c = λ e.
     let p = err_from_is_err_and c.from_residual-in_err-serve_piece.result c.from_residual-in_err-serve_piece.ensures.1 in
     let same : p.0 ≡ SourceFault = cc in
-    absurd (no_source_fault c.in_err-serve_piece.field-0.0 false (with_piece c.piece.result.now (standing c.loop-input.self.text c.loop-input.self.machine c.loop-input.self.replied (g.H.Host.shows c.loop-input.host))) (g.H.Host.shows c.serve_piece.new.host).said c.in_err-serve_piece.ensures.breaks (sym p.2 ∙ same))
+    absurd (no_source_fault c.in_err-serve_piece.field-0.0 false (with_piece c.piece.result.now (standing c.loop-input.self (g.H.Host.shows c.loop-input.host))) (g.H.Host.shows c.serve_piece.new.host).said c.in_err-serve_piece.ensures.served.breaks (sym p.2 ∙ same))
 
 pub returns-clause-ran : goal.returns-clause-ran
 returns-clause-ran g c = λ stream told ended.
     input_ends c.serve_whole.result stream.left c.loop-input.input c.pull.new.self (g.S.Source.told c.loop-input.source) (g.S.Source.told c.pull.new.source) (g.H.Host.shows c.args.host.now).said
-    c.loop-input.self.text c.finish.new.self c.loop-input.self.machine c.loop-input.self.replied (g.H.Host.shows c.loop-input.host)
-    (standing c.serve_whole.new.self.text c.serve_whole.new.self.machine c.serve_whole.new.self.replied (g.H.Host.shows c.serve_whole.new.host))
+    c.loop-input.self c.serve_whole.new.self c.finish.new.self (g.H.Host.shows c.loop-input.host) (g.H.Host.shows c.serve_whole.new.host)
     (c.loop-input.invariant.taken stream told ended)
     (subst (λ (a : Piece). Pulled (Ok a) c.loop-input.input c.pull.new.self (g.S.Source.told c.loop-input.source) (g.S.Source.told c.pull.new.source)) c.in_default.is
     (c.in_ok-pull.ensures.reads c.loop-input.invariant.open_input))
-    c.finish.ensures c.serve_whole.ensures.ok c.serve_whole.ensures.waiting c.serve_whole.ensures.breaks
+    c.finish.ensures c.serve_whole.ensures.waiting c.serve_whole.ensures.served

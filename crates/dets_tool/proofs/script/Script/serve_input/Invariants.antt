@@ -2,7 +2,7 @@ use Rattle.std.proofs.Common.{◌≡◌, ◌≤◌, ◌+◌, ◌^◌, false, Som
 use Rattle.host_model.specs.Source.{Stream}
 use Rattle.term_text.specs.FeedState.{total}
 use Rattle.dets_tool.specs.declared.input_feed.FeedState.TheVariants.{Reading}
-use Rattle.dets_tool.specs.Serving.{standing, IsWaiting}
+use Rattle.dets_tool.specs.Serving.{standing, IsWaiting, IsReady}
 use Rattle.dets_tool.proofs.InputRuns.{HasTaken}
 use Rattle.dets_tool.proofs.script.Script.serve_input.Given as goal
 
@@ -11,11 +11,10 @@ abbrev pub invariant-loop-input : goal.invariant-loop-input
 invariant-loop-input g l = record {
   budget : total l.self.text + l.input.room ≤ 2 ^ 32;
   open_input : l.input.state ≡ Reading;
-  going : (l.self.text.finished ≡ false) × (l.self.text.refused ≡ false) × (l.self.machine.starved ≡ false);
-  counted : l.self.replied ≤ l.self.text.offset;
+  ready : IsReady false l.self;
   waiting : IsWaiting false l.self.text.left;
   taken : (stream : Stream) → g.S.Source.told l.fn.source ≡ Some stream → stream.ended ≡ false
-      → HasTaken stream.left l.input.room (g.S.Source.told l.source) (g.H.Host.shows l.fn.host).said (standing l.self.text l.self.machine l.self.replied (g.H.Host.shows l.host));
+      → HasTaken stream.left l.input.room (g.S.Source.told l.source) (g.H.Host.shows l.fn.host).said (standing l.self (g.H.Host.shows l.host));
   source_faults : g.S.Source.faults l.fn.source ≤ g.S.Source.faults l.source;
   out_faults : (g.H.Host.shows l.fn.host).out_faults ≤ (g.H.Host.shows l.host).out_faults;
 }

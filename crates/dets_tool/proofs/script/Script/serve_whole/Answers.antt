@@ -1,34 +1,30 @@
-use Rattle.std.proofs.Common.{Bool, refl, ◌∙◌, subst, arith}
+use Rattle.std.proofs.Common.{refl, ◌∙◌, arith}
 use Rattle.std.proofs.lemmas.Result.{err_from_is_err_and}
-use Rattle.dets_tool.specs.Serving.{standing, Serves, Breaks}
-use Rattle.dets_tool.proofs.Serving.{Serves-none, Serves-append, Breaks-behind}
+use Rattle.dets_tool.proofs.Serving.{Serves-none, Serves-on, Breaks-on, IsReady-on}
 use Rattle.dets_tool.proofs.script.Script.serve_whole.Goals as goal
 
 pub loop-init : goal.loop-init
-loop-init g c = record { served = Serves-none _ _; never_falls = omega arith; text = (refl, refl); counted = c.requires.counted; going = c.requires.going }
+loop-init g c = record { served = Serves-none _ _; ready = c.requires.ready; bytes = refl; never_falls = omega arith }
 
-pub returns-in_err-serve_next-clause-breaks : goal.returns-in_err-serve_next-clause-breaks
-returns-in_err-serve_next-clause-breaks g c =
+pub returns-in_err-serve_next-clause-served : goal.returns-in_err-serve_next-clause-served
+returns-in_err-serve_next-clause-served g c =
     let p = err_from_is_err_and c.from_residual.result c.from_residual.ensures.1 in
-    rw (p.1, p.2)
-    (Breaks-behind _ _ _ _ _ c.loop.invariant.served
-    (subst (λ (f : Bool). Breaks c.in_err-serve_next.field-0.0 f (standing c.loop.self.text c.loop.self.machine c.loop.self.replied (g.H.Host.shows c.loop.host)) (g.H.Host.shows c.serve_next.new.host).said) c.loop.invariant.text.1
-    c.in_err-serve_next.ensures.breaks))
+    let i = c.loop.invariant in
+    rw (p.1, p.2) (record { served = tt; ready = tt; breaks = Breaks-on _ _ _ _ _ _ i.ready.at_end i.served c.in_err-serve_next.ensures.served.breaks })
 
 pub loop-preserved : goal.loop-preserved
-loop-preserved g c = record {
-  served =
-      Serves-append _ _ _ _ c.loop.invariant.served
-      (subst (λ (f : Bool). Serves f (standing c.loop.self.text c.loop.self.machine c.loop.self.replied (g.H.Host.shows c.loop.host)) (standing c.serve_next.new.self.text c.serve_next.new.self.machine c.serve_next.new.self.replied (g.H.Host.shows c.serve_next.new.host))) c.loop.invariant.text.1
-      c.in_ok-serve_next.ensures.served);
-  never_falls = omega (arith, c.loop.invariant.never_falls, c.serve_next.ensures.never_falls);
-  text = (c.serve_next.ensures.text.0 ∙ c.loop.invariant.text.0, c.serve_next.ensures.text.1 ∙ c.loop.invariant.text.1);
-  counted = c.in_ok-serve_next.ensures.counted;
-  going = c.in_ok-serve_next.ensures.going;
-}
+loop-preserved g c =
+    let i = c.loop.invariant in
+    let one = c.in_ok-serve_next.ensures.served in
+    record {
+      served = Serves-on _ _ _ _ _ i.ready.at_end i.served one.served;
+      ready = IsReady-on _ _ _ i.ready.at_end one.ready;
+      bytes = c.serve_next.ensures.keeps.0 ∙ i.bytes;
+      never_falls = omega (arith, i.never_falls, c.serve_next.ensures.faults.never_falls);
+    }
 
-pub returns-clause-ok : goal.returns-clause-ok
-returns-clause-ok g c =
-    Serves-append _ _ _ _ c.loop.invariant.served
-    (subst (λ (f : Bool). Serves f (standing c.loop.self.text c.loop.self.machine c.loop.self.replied (g.H.Host.shows c.loop.host)) (standing c.serve_next.new.self.text c.serve_next.new.self.machine c.serve_next.new.self.replied (g.H.Host.shows c.serve_next.new.host))) c.loop.invariant.text.1
-    c.in_ok-serve_next.ensures.served)
+pub returns-clause-served : goal.returns-clause-served
+returns-clause-served g c =
+    let i = c.loop.invariant in
+    let none = c.in_ok-serve_next.ensures.served in
+    record { served = Serves-on _ _ _ _ _ i.ready.at_end i.served none.served; ready = IsReady-on _ _ _ i.ready.at_end none.ready; breaks = tt }
