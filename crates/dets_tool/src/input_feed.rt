@@ -1,5 +1,5 @@
 // The input, taken a read at a time within a budget.
-ghost use Rattle.std.specs.Prelude.{◌≡◌, ◌≢◌, ◌↔◌, ◌<◌, ◌≤◌, [], length, take, min, max, IfOk, IsErrOf, OnErr, IfSome, option_map};
+ghost use Rattle.std.specs.Prelude.{◌≡◌, ◌≢◌, ◌↔◌, ◌<◌, ◌≤◌, [], length, take, min, max, IfOk, IsErrOf, OnOk, OnErr, IfSome, option_map};
 ghost use Rattle.host_model.specs.Counts.{Rose};
 ghost use Rattle.host_model.specs.Source.{after_read};
 
@@ -107,6 +107,7 @@ impl InputFeed {
             → Pulled result self.old self.new (S.told source.old) (S.told source.new) }
         ensures cause { IsErrOf result PullFault.SourceFault
             → Rose (S.faults source.old) (S.faults source.new) }
+        ensures no_fault { result ≢ Err PullFault.SourceFault → S.faults source.new ≡ S.faults source.old }
         ensures never_falls { S.faults source.old ≤ S.faults source.new }
 
         // After the end and past the budget.
@@ -127,6 +128,7 @@ impl InputFeed {
         ensures reads { Pulled result self.old self.new (S.told source.old) (S.told source.new) }
         ensures cause { IsErrOf result PullFault.SourceFault
             → Rose (S.faults source.old) (S.faults source.new) }
+        ensures no_fault { result ≢ Err PullFault.SourceFault → S.faults source.new ≡ S.faults source.old }
         ensures never_falls { S.faults source.old ≤ S.faults source.new }
     {
         let wanted = wanted_bytes(self.room);
@@ -175,6 +177,7 @@ fn read_front<S: Source>(
     ensures end { IfOk result (λ n. IfSome (S.told source.old) (λ s. (n ≡ 0) ↔ (s.left ≡ []))) }
     ensures untaken { OnErr result (S.told source.new ≡ S.told source.old) }
     ensures cause { OnErr result (Rose (S.faults source.old) (S.faults source.new)) }
+    ensures no_fault { OnOk result (S.faults source.new ≡ S.faults source.old) }
     ensures never_falls { S.faults source.old ≤ S.faults source.new }
 {
     source.read(&mut buffer[..wanted])

@@ -1,5 +1,5 @@
 //! The program over any source and host, and over the real ones.
-ghost use Rattle.std.specs.Prelude.{◌≡◌, ◌↔◌, List, ℕ, false, None, Some};
+ghost use Rattle.std.specs.Prelude.{◌≡◌, ◌≢◌, ◌↔◌, List, ℕ, false, None, Some};
 ghost use Rattle.host_model.specs.Counts.{Rose};
 ghost use Rattle.host_model.specs.Source.{Stream};
 ghost use Rattle.dets_tool.specs.Job.{stated_job};
@@ -32,6 +32,7 @@ pub fn dets_main<S: Source, H: Host>(
         → IsBuiltScript stream.left → IsServed result }
 
     ensures source_fault { result ≡ Status.SourceFault → Rose (S.faults source.old) (S.faults source.new) }
+    ensures no_source_fault { result ≢ Status.SourceFault → result ≢ Status.Memory → S.faults source.new ≡ S.faults source.old }
     ensures output { result ≡ Status.Output → Rose (H.shows host.old).out_faults (H.shows host.new).out_faults }
 
     ensures refused { result ≡ Status.WordsRefused ↔ (stated_job words.now ≡ None) }

@@ -43,6 +43,7 @@ pub(crate) fn run<S: Source, H: Host>(alloc: Global, source: &mut S, host: &mut 
     ensures ran { (stream : Stream) → S.told source.old ≡ Some stream → stream.ended ≡ false
         → Ran result stream.left (S.told source.new) (H.shows host.old).said (H.shows host.new).said }
     ensures source_fault { result ≡ Status.SourceFault → Rose (S.faults source.old) (S.faults source.new) }
+    ensures no_source_fault { result ≢ Status.SourceFault → result ≢ Status.Memory → S.faults source.new ≡ S.faults source.old }
     ensures output { result ≡ Status.Output → Rose (H.shows host.old).out_faults (H.shows host.new).out_faults }
     ensures words { result ≢ Status.WordsRefused }
 {
@@ -82,6 +83,7 @@ impl Script {
         ensures ran { (stream : Stream) → S.told source.old ≡ Some stream → stream.ended ≡ false
             → Ran (status_of_run result) stream.left (S.told source.new) (H.shows host.old).said (H.shows host.new).said }
         ensures source_fault { IsErrOf result Status.SourceFault → Rose (S.faults source.old) (S.faults source.new) }
+        ensures no_source_fault { result ≢ Err Status.SourceFault → S.faults source.new ≡ S.faults source.old }
         ensures output { IsErrOf result Status.Output → Rose (H.shows host.old).out_faults (H.shows host.new).out_faults }
         ensures words { IsErrOf result Status.WordsRefused → ⊥ }
     {

@@ -23,3 +23,14 @@ returns-clause-ran g c = λ stream told ended.
     (subst (λ h. Ran c.match-serve_input.end stream.left (g.S.Source.told c.serve_input.new.source) (g.H.Host.shows c.args.host.now).said (g.H.Host.shows h).said) (sym c.close.ensures.host)
     (subst (λ (s : Status). Ran s stream.left (g.S.Source.told c.serve_input.new.source) (g.H.Host.shows c.args.host.now).said (g.H.Host.shows c.serve_input.new.host).said) end
     (c.serve_input.ensures.ran stream told ended)))
+
+pub returns-clause-no_source_fault : goal.returns-clause-no_source_fault
+returns-clause-no_source_fault g c = λ not_source not_memory.
+    let end : status_of_run c.serve_input.result ≡ c.match-serve_input.end = elim c.match-serve_input.branch [
+      | in-Ok w ↦ ap status_of_run w.in-Ok.is ∙ sym w.end-is
+      | in-Err w ↦ ap status_of_run w.in-Err.is ∙ sym w.end-is
+    ] in
+    elim c.close.ensures.end [
+      | inl e ↦ c.serve_input.ensures.no_source_fault (λ f. not_source (e ∙ sym end ∙ ap status_of_run f))
+      | inr e ↦ absurd (not_memory e)
+    ]

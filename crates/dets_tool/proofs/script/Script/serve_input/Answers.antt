@@ -1,4 +1,4 @@
-use Rattle.std.proofs.Common.{◌≡◌, ℕ, ◌^◌, false, List, length, Ok, inl, ap, ◌∙◌, sym, subst, arith}
+use Rattle.std.proofs.Common.{◌≡◌, ◌≢◌, ℕ, ◌^◌, false, List, length, Result, Ok, Err, inl, ap, ◌∙◌, refl, sym, subst, arith}
 use Rattle.std.proofs.lemmas.Result.{err_from_is_err_and}
 use Rattle.term_text.specs.FeedState.{FeedState, total}
 use Rattle.term_text.specs.Script.{Answers}
@@ -11,6 +11,9 @@ use Rattle.dets_tool.specs.declared.status.Status.TheVariants.{SourceFault}
 use Rattle.dets_tool.specs.Serving.{standing, with_piece, Serves, Breaks}
 use Rattle.dets_tool.proofs.InputRuns.{no_input, taken_none, taken_piece, piece_breaks, pull_fails, input_ends, no_source_fault}
 use Rattle.dets_tool.proofs.script.Script.serve_input.Goals as goal
+
+ok_is_no_err : {A E : Type 0} (a : A) (e : E) (r : Result A E) → r ≡ Ok a → r ≢ Err e
+ok_is_no_err a e r is f = let clash : Ok a ≡ Err e = sym is ∙ f in cc
 
 pub returns-in_err-input-clause-ran : goal.returns-in_err-input-clause-ran
 returns-in_err-input-clause-ran g c = λ stream told ended.
@@ -31,7 +34,7 @@ loop-input-init g c =
       };
       waiting = inl (subst (λ (t : FeedState). Answers false t.left (Ok Again)) (sym c.requires.text) nothing_fed);
       taken = λ stream told ended. rw (c.requires.text, c.requires.machine, c.requires.replied) (taken_none stream _ _ _ told ended room);
-      source_faults = omega arith;
+      source_faults = refl;
       out_faults = omega arith;
     }
 
@@ -56,7 +59,7 @@ loop-input-preserved g c =
           taken_piece stream.left _ _ _ _ _ _ _ (c.loop-input.invariant.taken stream told ended) piece
           (subst (λ (l : List ℕ). Serves false (with_piece l (standing c.loop-input.self (g.H.Host.shows c.loop-input.host)))
           (standing c.serve_piece.new.self (g.H.Host.shows c.serve_piece.new.host))) c.piece.ensures c.in_ok-serve_piece.ensures.served.served);
-      source_faults = omega (arith, c.loop-input.invariant.source_faults, c.pull.ensures.never_falls);
+      source_faults = c.pull.ensures.no_fault (ok_is_no_err _ _ _ c.in_ok-pull.was) ∙ c.loop-input.invariant.source_faults;
       out_faults = omega (arith, c.loop-input.invariant.out_faults, c.serve_piece.ensures.faults.never_falls);
     }
 

@@ -15,7 +15,7 @@ invariant-loop-input g l = record {
   waiting : IsWaiting false l.self.text.left;
   taken : (stream : Stream) → g.S.Source.told l.fn.source ≡ Some stream → stream.ended ≡ false
       → HasTaken stream.left l.input.room (g.S.Source.told l.source) (g.H.Host.shows l.fn.host).said (standing l.self (g.H.Host.shows l.host));
-  source_faults : g.S.Source.faults l.fn.source ≤ g.S.Source.faults l.source;
+  source_faults : g.S.Source.faults l.source ≡ g.S.Source.faults l.fn.source;
   out_faults : (g.H.Host.shows l.fn.host).out_faults ≤ (g.H.Host.shows l.host).out_faults;
 }
 
