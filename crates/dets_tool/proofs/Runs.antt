@@ -1,5 +1,6 @@
 -- What a run has come to where it ends.
-use Rattle.std.proofs.Common.{◌≡◌, ℕ, ◌+◌, ◌<◌, ◌≤◌, ◌^◌, Bool, true, false, List, [], ◌∷◌, ◌++◌, length, length-append, take, drop, Option, Some, None, option_map, Ok, Err, inl, inr, refl, ap, ◌∙◌, sym, subst, append_assoc, append-nil, arith}
+use Rattle.std.proofs.Common.{◌≡◌, ℕ, ◌+◌, ◌<◌, ◌≤◌, ◌^◌, Bool, true, false, List, [], ◌∷◌, ◌++◌, length, length-append, take, drop, Option, Some, None}
+use Rattle.std.proofs.Common.{option_map, Ok, Err, inl, inr, refl, ap, ◌∙◌, sym, subst, append_assoc, append-nil, arith}
 use Rattle.std.proofs.lemmas.List.{take-append-drop}
 use Rattle.std.specs.Option.{option_map_or}
 use Rattle.dets_term.specs.TermValue.{TermValue}
@@ -16,7 +17,7 @@ use Rattle.host_model.specs.Host.{SaysFront}
 use Rattle.dets_tool.specs.declared.status.Status.{Status}
 use Rattle.dets_tool.specs.declared.status.Status.TheVariants.{Done, Input, WordsRefused, SourceFault, Output, Memory, NotYet}
 use Rattle.dets_tool.specs.declared.status.InputWhy.{InputWhy}
-use Rattle.dets_tool.specs.Run.{reply_line, reply_text, terms_of, Course, replies_of, HasWrittenAll, GoesOn, IsEndOf, Ran}
+use Rattle.dets_tool.specs.Run.{reply_line, reply_text, terms_of, Outcome, replies_of, HasWrittenAll, GoesOn, IsEndOf, Ran}
 use Rattle.dets_tool.specs.Serving.{Standing, Serves, IsUnserved, Stops, at_command, at_text, at_memory, Breaks, IsWaiting}
 use Rattle.dets_tool.proofs.Serving.{said_nothing, said_both, reply_text-append, terms_of-append, terms_of-length}
 
@@ -50,8 +51,8 @@ record End_of (finished : Bool) (bytes : List ℕ) (said : Option (List ℕ)) : 
   script : IsScript finished here.left placed rest
   part : List ℕ
 
-abbrev course : (finished : Bool) (bytes : List ℕ) (said : Option (List ℕ)) → End_of finished bytes said → List ℕ → List ℕ → Course
-course finished bytes said e past left = record {
+abbrev outcome : (finished : Bool) (bytes : List ℕ) (said : Option (List ℕ)) → End_of finished bytes said → List ℕ → List ℕ → Outcome
+outcome finished bytes said e past left = record {
   bytes = bytes;
   past = past;
   left = left;
@@ -62,16 +63,17 @@ course finished bytes said e past left = record {
 }
 
 -- the replies to all commands: those that were written, and those to what is left
-replies_there : (finished : Bool) (bytes : List ℕ) (said : Option (List ℕ)) (e : End_of finished bytes said) (past left : List ℕ) → replies_of (course finished bytes said e past left) ≡ e.served.answers ++ replies e.here.state (terms_of e.placed)
+replies_there : (finished : Bool) (bytes : List ℕ) (said : Option (List ℕ)) (e : End_of finished bytes said) (past left : List ℕ)
+    → replies_of (outcome finished bytes said e past left) ≡ e.served.answers ++ replies e.here.state (terms_of e.placed)
 replies_there finished bytes said e past left =
     ap (replies first_state) (terms_of-append e.served.commands e.placed) ∙ e.served.served (terms_of e.placed)
 
 made : (status : Status) (finished : Bool) (bytes past left input : List ℕ) (said now : Option (List ℕ)) (e : End_of finished bytes said) (more : List ℕ)
     → reply_text (replies e.here.state (terms_of e.placed)) ≡ e.part ++ more → now ≡ option_map (λ (output : List ℕ). output ++ e.part) e.here.said
-    → Took finished bytes past left input → IsEndOf status (course finished bytes said e past left)
+    → Took finished bytes past left input → IsEndOf status (outcome finished bytes said e past left)
     → Ran status input (Some (record { left = left; ended = finished })) said now
 made status finished bytes past left input said now e more h o t end = record {
-  course = course finished bytes said e past left;
+  outcome = outcome finished bytes said e past left;
   told = refl;
   taken = t.taken;
   within = t.within;
@@ -83,36 +85,41 @@ made status finished bytes past left input said now e more h o t end = record {
       AreNext-script finished bytes e.served.commands e.placed e.rest e.served.next
       (subst (λ (l : List ℕ). IsScript finished l e.placed e.rest) e.served.left e.script);
   output = o ∙ ap (option_map (λ (output : List ℕ). output ++ e.part)) e.served.said ∙ said_both said (reply_text e.served.answers) e.part;
-  front = record {
-    rest = more;
-    whole =
-        ap reply_text (replies_there finished bytes said e past left) ∙ reply_text-append e.served.answers (replies e.here.state (terms_of e.placed))
-        ∙ ap (λ l. reply_text e.served.answers ++ l) h ∙ sym (append_assoc (reply_text e.served.answers) e.part more);
-  };
+  prefix = (
+    more,
+    append_assoc (reply_text e.served.answers) e.part more ∙ ap (λ l. reply_text e.served.answers ++ l) (sym h)
+        ∙ sym (reply_text-append e.served.answers (replies e.here.state (terms_of e.placed)))
+        ∙ ap reply_text (sym (replies_there finished bytes said e past left)),
+  );
   end = end;
 }
 
 -- ---- where no reply is left
 
 -- all replies were written, where what is left has none
-all_written : (finished : Bool) (bytes : List ℕ) (said : Option (List ℕ)) (e : End_of finished bytes said) (past left : List ℕ) → e.part ≡ [] → replies e.here.state (terms_of e.placed) ≡ [] → HasWrittenAll (course finished bytes said e past left)
+all_written : (finished : Bool) (bytes : List ℕ) (said : Option (List ℕ)) (e : End_of finished bytes said) (past left : List ℕ) → e.part ≡ []
+    → replies e.here.state (terms_of e.placed) ≡ [] → HasWrittenAll (outcome finished bytes said e past left)
 all_written finished bytes said e past left p r =
     ap (λ l. reply_text e.served.answers ++ l) p ∙ append-nil (reply_text e.served.answers)
     ∙ ap reply_text (sym (replies_there finished bytes said e past left ∙ ap (λ l. e.served.answers ++ l) r ∙ append-nil e.served.answers))
 
-replies_count : (finished : Bool) (bytes : List ℕ) (said : Option (List ℕ)) (e : End_of finished bytes said) (past left : List ℕ) → replies e.here.state (terms_of e.placed) ≡ [] → length (replies_of (course finished bytes said e past left)) ≡ length e.served.commands
+replies_count : (finished : Bool) (bytes : List ℕ) (said : Option (List ℕ)) (e : End_of finished bytes said) (past left : List ℕ)
+    → replies e.here.state (terms_of e.placed) ≡ [] → length (replies_of (outcome finished bytes said e past left)) ≡ length e.served.commands
 replies_count finished bytes said e past left r =
     ap length (replies_there finished bytes said e past left ∙ ap (λ l. e.served.answers ++ l) r ∙ append-nil e.served.answers) ∙ e.served.all
 
-commands_count : (finished : Bool) (bytes : List ℕ) (said : Option (List ℕ)) (e : End_of finished bytes said) (past left : List ℕ) → length ((course finished bytes said e past left).commands) ≡ length e.served.commands + length e.placed
+commands_count : (finished : Bool) (bytes : List ℕ) (said : Option (List ℕ)) (e : End_of finished bytes said) (past left : List ℕ)
+    → length ((outcome finished bytes said e past left).commands) ≡ length e.served.commands + length e.placed
 commands_count finished bytes said e past left = terms_of-length (e.served.commands ++ e.placed) ∙ length-append e.served.commands e.placed
 
 -- the end where no term stands in front of what is left
-abbrev no_more : (finished : Bool) (bytes : List ℕ) (said : Option (List ℕ)) (here : Standing) → Serves finished (taken bytes said) here → (rest : Rest) → IsScript finished here.left [] rest → End_of finished bytes said
+abbrev no_more : (finished : Bool) (bytes : List ℕ) (said : Option (List ℕ)) (here : Standing) → Serves finished (taken bytes said) here → (rest : Rest)
+    → IsScript finished here.left [] rest → End_of finished bytes said
 no_more finished bytes said here s rest script = record { here = here; served = s; placed = []; rest = rest; script = script; part = [] }
 
-goes_on : (bytes : List ℕ) (said : Option (List ℕ)) (here : Standing) (s : Serves false (taken bytes said) here) (rest : Rest) (script : IsScript false here.left [] rest) (past left : List ℕ)
-    → answer false rest ≡ Ok Again → GoesOn (course false bytes said (no_more false bytes said here s rest script) past left)
+goes_on : (bytes : List ℕ) (said : Option (List ℕ)) (here : Standing) (s : Serves false (taken bytes said) here) (rest : Rest)
+    (script : IsScript false here.left [] rest) (past left : List ℕ)
+    → answer false rest ≡ Ok Again → GoesOn (outcome false bytes said (no_more false bytes said here s rest script) past left)
 goes_on bytes said here s rest script past left e =
     let end = no_more false bytes said here s rest script in record {
       written = all_written false bytes said end past left refl refl;
@@ -142,7 +149,7 @@ awaited_end left (inr a) = (a.rest, (a.script, blank_end a.rest a.given))
   where
     blank_end : (r : Rest) → Ok EndOfText ≡ answer true r → r ≡ blank
     blank_end blank e = refl
-    blank_end begun e = cc
+    blank_end may_go_on e = cc
     blank_end faulty e = cc
 
 pub ran_source_fault : (bytes left input : List ℕ) (said : Option (List ℕ)) (here : Standing) → Serves false (taken bytes said) here → IsWaiting false here.left
@@ -152,7 +159,8 @@ ran_source_fault bytes left input said here s w t =
     made SourceFault false bytes [] left input said here.said (no_more false bytes said here s a.0 a.1.0) [] refl (said_nothing here.said) t
     (refl, goes_on bytes said here s a.0 a.1.0 [] left a.1.1)
 
-pub ran_too_much : (bytes past left input : List ℕ) (said : Option (List ℕ)) (why : InputWhy) (here : Standing) → Serves false (taken bytes said) here → IsWaiting false here.left
+pub ran_too_much : (bytes past left input : List ℕ) (said : Option (List ℕ)) (why : InputWhy) (here : Standing) → Serves false (taken bytes said) here
+    → IsWaiting false here.left
     → Took false bytes past left input → 0 < length past → Ran (Input (2 ^ 32) why) input (Some (record { left = left; ended = false })) said here.said
 ran_too_much bytes past left input said why here s w t p =
     let a = awaited here.left w in
@@ -177,24 +185,29 @@ ran_done bytes input said here s w t =
 -- ---- where a run breaks
 
 -- the script of what is left, where a command stands in front
-script_from : (finished : Bool) (left : List ℕ) (t : TermValue) (n : ℕ) → IsNext finished left t n → (others : List Placed) × ((rest : Rest) × IsScript finished left (record { term = t; bytes = n } ∷ others) rest)
+script_from : (finished : Bool) (left : List ℕ) (t : TermValue) (n : ℕ) → IsNext finished left t n
+    → (others : List Placed) × ((rest : Rest) × IsScript finished left (record { term = t; bytes = n } ∷ others) rest)
 script_from finished left t n next =
     let all = script_exists finished left in
     let on = script_behind finished left t n all.0 all.1.0 next all.1.1 in
     (on.0, (all.1.0, (next, on.2)))
 
 -- the end where a command stands in front of what is left
-abbrev at_next : (finished : Bool) (bytes : List ℕ) (said : Option (List ℕ)) (here : Standing) → Serves finished (taken bytes said) here → (t : TermValue) (n : ℕ) (others : List Placed) (rest : Rest) → IsScript finished here.left (record { term = t; bytes = n } ∷ others) rest → (part : List ℕ) → End_of finished bytes said
+abbrev at_next : (finished : Bool) (bytes : List ℕ) (said : Option (List ℕ)) (here : Standing) → Serves finished (taken bytes said) here
+    → (t : TermValue) (n : ℕ) (others : List Placed) (rest : Rest) → IsScript finished here.left (record { term = t; bytes = n } ∷ others) rest
+    → (part : List ℕ) → End_of finished bytes said
 at_next finished bytes said here s t n others rest script part =
     record { here = here; served = s; placed = record { term = t; bytes = n } ∷ others; rest = rest; script = script; part = part }
 
-first_reply : (state : State) (t : TermValue) (others : List TermValue) (reply : TermValue) (after : State) → step state t ≡ Some (reply, after) → replies state (t ∷ others) ≡ reply ∷ replies after others
+first_reply : (state : State) (t : TermValue) (others : List TermValue) (reply : TermValue) (after : State) → step state t ≡ Some (reply, after)
+    → replies state (t ∷ others) ≡ reply ∷ replies after others
 first_reply state t others reply after e = ap (λ o. option_map_or (λ (served : TermValue × State). served.0 ∷ replies served.1 others) o []) e
 
 no_reply : (state : State) (t : TermValue) (others : List TermValue) → step state t ≡ None → replies state (t ∷ others) ≡ []
 no_reply state t others e = ap (λ o. option_map_or (λ (served : TermValue × State). served.0 ∷ replies served.1 others) o []) e
 
-ran_unserved : (status : Status) (finished : Bool) (bytes left input : List ℕ) (said now : Option (List ℕ)) (here : Standing) → Serves finished (taken bytes said) here → (t : TermValue) (n : ℕ) → IsNext finished here.left t n
+ran_unserved : (status : Status) (finished : Bool) (bytes left input : List ℕ) (said now : Option (List ℕ)) (here : Standing)
+    → Serves finished (taken bytes said) here → (t : TermValue) (n : ℕ) → IsNext finished here.left t n
     → IsUnserved status here t now → Took finished bytes [] left input → Ran status input (Some (record { left = left; ended = finished })) said now
 ran_unserved Done finished bytes left input said now here s t n next u i = absurd u
 ran_unserved (Input offset why) finished bytes left input said now here s t n next u i = absurd u
@@ -227,7 +240,8 @@ ran_unserved (NotYet number) finished bytes left input said now here s t n next 
       },
     )
 
-ran_at_text : (finished : Bool) (bytes left input : List ℕ) (said now : Option (List ℕ)) (here : Standing) → Serves finished (taken bytes said) here → Answers finished here.left (Err NotYetText)
+ran_at_text : (finished : Bool) (bytes left input : List ℕ) (said now : Option (List ℕ)) (here : Standing) → Serves finished (taken bytes said) here
+    → Answers finished here.left (Err NotYetText)
     → now ≡ here.said → Took finished bytes [] left input → Ran (NotYet here.replied) input (Some (record { left = left; ended = finished })) said now
 ran_at_text finished bytes left input said now here s a o i =
     let end = no_more finished bytes said here s a.rest a.script in
@@ -257,9 +271,10 @@ ran_break status finished bytes left input said now b i = by_stop status b.stops
     by_stop _ (at_memory o) = ran_memory finished bytes left input said now b.here b.served o i
 
 -- a run that has no memory left at its end has done no more
-pub ran_without_memory : (status : Status) (input : List ℕ) (after : Option Stream) (said now : Option (List ℕ)) → Ran status input after said now → Ran Memory input after said now
+pub ran_without_memory : (status : Status) (input : List ℕ) (after : Option Stream) (said now : Option (List ℕ)) → Ran status input after said now
+    → Ran Memory input after said now
 ran_without_memory status input after said now r = record {
-  course = r.course;
+  outcome = r.outcome;
   told = r.told;
   taken = r.taken;
   within = r.within;
@@ -269,6 +284,6 @@ ran_without_memory status input after said now r = record {
   terms = r.terms;
   script = r.script;
   output = r.output;
-  front = r.front;
+  prefix = r.prefix;
   end = tt;
 }

@@ -1,5 +1,6 @@
 -- How a run goes on, step by step.
-use Rattle.std.proofs.Common.{◌≡◌, ℕ, Bool, false, List, [], ◌∷◌, ◌++◌, length, length-append, Option, Some, None, option_map, refl, ap, ◌∙◌, sym, subst, append_assoc, append-nil, arith}
+use Rattle.std.proofs.Common.{◌≡◌, ℕ, Bool, false, List, [], ◌∷◌, ◌++◌, length, length-append, Option, Some, None, option_map, refl, ap, ◌∙◌, sym, subst}
+use Rattle.std.proofs.Common.{append_assoc, append-nil, arith}
 use Rattle.std.specs.Option.{option_map_or}
 use Rattle.dets_term.specs.TermValue.{TermValue}
 use Rattle.term_text.specs.FeedState.{FeedState}
@@ -20,7 +21,9 @@ pub said_nothing : (said : Option (List ℕ)) → said ≡ option_map (λ (outpu
 said_nothing None = refl
 said_nothing (Some output) = ap Some (sym (append-nil output))
 
-pub said_both : (said : Option (List ℕ)) (xs ys : List ℕ) → option_map (λ (output : List ℕ). output ++ ys) (option_map (λ (output : List ℕ). output ++ xs) said) ≡ option_map (λ (output : List ℕ). output ++ (xs ++ ys)) said
+pub said_both : (said : Option (List ℕ)) (xs ys : List ℕ)
+    → option_map (λ (output : List ℕ). output ++ ys) (option_map (λ (output : List ℕ). output ++ xs) said)
+    ≡ option_map (λ (output : List ℕ). output ++ (xs ++ ys)) said
 said_both None xs ys = refl
 said_both (Some output) xs ys = ap Some (append_assoc output xs ys)
 
@@ -54,7 +57,8 @@ Serves-none finished here = record {
 pub Serves-same : (finished : Bool) (left : List ℕ) (here : Standing) → left ≡ here.left → Serves finished here (record here { left = left })
 Serves-same finished left here e = rw e (Serves-none finished here)
 
-pub IsReady-same : (finished : Bool) (text : FeedState) (script : Script) → text ≡ script.text → IsReady finished script → IsReady finished (record script { text = text })
+pub IsReady-same : (finished : Bool) (text : FeedState) (script : Script) → text ≡ script.text → IsReady finished script
+    → IsReady finished (record script { text = text })
 IsReady-same finished text script e r = rw e r
 
 pub Serves-append : (finished : Bool) (a b c : Standing) → Serves finished a b → Serves finished b c → Serves finished a c
@@ -89,7 +93,8 @@ Serves-one finished old new left t taken n e r = record {
 }
 
 -- more bytes come behind
-pub Serves-more : (finished : Bool) (a b : Standing) (more : List ℕ) → Serves false a b → Serves finished (record a { left = a.left ++ more }) (record b { left = b.left ++ more })
+pub Serves-more : (finished : Bool) (a b : Standing) (more : List ℕ) → Serves false a b
+    → Serves finished (record a { left = a.left ++ more }) (record b { left = b.left ++ more })
 Serves-more finished a b more s =
     let still = AreNext-more finished a.left more s.commands s.next in record {
       commands = s.commands;
@@ -114,7 +119,8 @@ IsUnserved-left Memory here left t now u = u
 IsUnserved-left (NotYet number) here left t now u = u
 
 -- a run that breaks behind commands that were served
-pub Breaks-behind : (status : Status) (finished : Bool) (a b : Standing) (now : Option (List ℕ)) → Serves finished a b → Breaks status finished b now → Breaks status finished a now
+pub Breaks-behind : (status : Status) (finished : Bool) (a b : Standing) (now : Option (List ℕ)) → Serves finished a b → Breaks status finished b now
+    → Breaks status finished a now
 Breaks-behind status finished a b now s f = record { here = f.here; served = Serves-append finished a b f.here s f.served; stops = f.stops }
 
 -- what follows is told of the input as it stands then, which goes on or has ended as before

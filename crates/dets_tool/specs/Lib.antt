@@ -1,5 +1,5 @@
 -- The definitions of this crate, one file for each idea.
-pub mod FeedValue
+pub mod InputFeed
 pub mod Job
 pub mod Status
 pub mod Run

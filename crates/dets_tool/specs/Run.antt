@@ -1,5 +1,6 @@
 -- What a run of a script comes to: the bytes that it takes, their commands, the replies, and what is written at its
 -- end. All of it is this project's own.
+use mathlib.Core.List.{IsPrefix}
 use Rattle.std.specs.Prelude.{◌≡◌, ℕ, ◌<◌, ◌≤◌, ◌^◌, Bool, true, List, [], ◌∷◌, ◌++◌, length, Option, Some, option_map, Ok, Err, codes, ◌⊎◌}
 use Rattle.dets_term.specs.TermValue.{TermValue}
 use Rattle.term_text.specs.Printed.{printed}
@@ -24,13 +25,8 @@ abbrev pub terms_of : List Placed → List TermValue
 terms_of [] = []
 terms_of (first ∷ others) = first.term ∷ terms_of others
 
--- a front of some bytes
-pub record IsFrontOf (front bytes : List ℕ) : Type 0 where
-  pub rest : List ℕ
-  pub whole : bytes ≡ front ++ rest
-
 -- how a run stands at its end
-pub record Course : Type 0 where
+pub record Outcome : Type 0 where
   -- the bytes that were taken, without those of a read past the budget
   pub bytes : List ℕ
   -- the bytes of that read
@@ -45,38 +41,38 @@ pub record Course : Type 0 where
   pub written : List ℕ
 
 -- the replies to the commands, up to the first that is not built
-abbrev pub replies_of : Course → List TermValue
+abbrev pub replies_of : Outcome → List TermValue
 replies_of c = replies first_state c.commands
 
 -- all replies were written
-abbrev pub HasWrittenAll : Course → Type 0
+abbrev pub HasWrittenAll : Outcome → Type 0
 HasWrittenAll c = c.written ≡ reply_text (replies_of c)
 
 -- each command was replied to
-abbrev pub HasRepliedToAll : Course → Type 0
+abbrev pub HasRepliedToAll : Outcome → Type 0
 HasRepliedToAll c = length (replies_of c) ≡ length c.commands
 
 -- each command was replied to, and more of the input may come
-pub record GoesOn (c : Course) : Type 0 where
+pub record GoesOn (c : Outcome) : Type 0 where
   pub written : HasWrittenAll c
   pub all : HasRepliedToAll c
   pub open_end : answer c.ended c.rest ≡ Ok Again
 
 -- so many commands were replied to, and what stands behind them is not built
-pub record IsNotBuilt (replied : ℕ) (c : Course) : Type 0 where
+pub record IsNotBuilt (replied : ℕ) (c : Outcome) : Type 0 where
   pub written : HasWrittenAll c
   pub replied_to : replied ≡ length (replies_of c)
   pub next : (replied < length c.commands) ⊎ ((replied ≡ length c.commands) × (answer c.ended c.rest ≡ Err NotYetText))
 
 -- each command was replied to, and the input was read to its end
-pub record IsDone (c : Course) : Type 0 where
+pub record IsDone (c : Outcome) : Type 0 where
   pub written : HasWrittenAll c
   pub all : HasRepliedToAll c
   pub ended : c.ended ≡ true
   pub blank_rest : c.rest ≡ blank
 
 -- what each status says of the run
-abbrev pub IsEndOf : Status → Course → Type 0
+abbrev pub IsEndOf : Status → Outcome → Type 0
 IsEndOf Done c = (c.past ≡ []) × IsDone c
 IsEndOf (Input offset why) c = (offset ≡ 2 ^ 32) × (0 < length c.past) × GoesOn c
 IsEndOf WordsRefused c = ⊥
@@ -88,18 +84,18 @@ IsEndOf (NotYet replied) c = (c.past ≡ []) × IsNotBuilt replied c
 -- A run over an input, up to this status: what the source tells then, and what the host tells of its output at the
 -- start and then. What was written is in each case a front of the text of the replies.
 pub record Ran (status : Status) (input : List ℕ) (after : Option Stream) (said now : Option (List ℕ)) : Type 0 where
-  pub course : Course
-  pub told : after ≡ Some (record { left = course.left; ended = course.ended })
-  pub taken : input ≡ course.bytes ++ (course.past ++ course.left)
-  pub within : length course.bytes ≤ 2 ^ 32
-  pub budget : 0 < length course.past → length course.bytes ≡ 2 ^ 32
-  pub at_end : course.ended ≡ true → course.left ≡ []
+  pub outcome : Outcome
+  pub told : after ≡ Some (record { left = outcome.left; ended = outcome.ended })
+  pub taken : input ≡ outcome.bytes ++ (outcome.past ++ outcome.left)
+  pub within : length outcome.bytes ≤ 2 ^ 32
+  pub budget : 0 < length outcome.past → length outcome.bytes ≡ 2 ^ 32
+  pub at_end : outcome.ended ≡ true → outcome.left ≡ []
   pub placed : List Placed
-  pub terms : course.commands ≡ terms_of placed
-  pub script : IsScript course.ended course.bytes placed course.rest
-  pub output : now ≡ option_map (λ (output : List ℕ). output ++ course.written) said
-  pub front : IsFrontOf course.written (reply_text (replies_of course))
-  pub end : IsEndOf status course
+  pub terms : outcome.commands ≡ terms_of placed
+  pub script : IsScript outcome.ended outcome.bytes placed outcome.rest
+  pub output : now ≡ option_map (λ (output : List ℕ). output ++ outcome.written) said
+  pub prefix : IsPrefix outcome.written (reply_text (replies_of outcome))
+  pub end : IsEndOf status outcome
 
 -- the script was served to its end, or a device or the memory failed before
 abbrev pub IsServed : Status → Type 0

@@ -17,18 +17,18 @@ code_of Memory = 6
 code_of (NotYet command) = 9
 
 -- the program's name, and the line end behind the text
-abbrev pub said : List ℕ → List ℕ
-said text = codes "dets_tool: " ++ text ++ 10 ∷ []
+abbrev pub message : List ℕ → List ℕ
+message text = codes "dets_tool: " ++ text ++ 10 ∷ []
 
 -- the line for standard error
 abbrev pub line_of : Status → List ℕ
 line_of Done = []
-line_of (Input offset why) = said (codes "input refused at " ++ decimal offset)
-line_of WordsRefused = said (codes "words refused")
-line_of SourceFault = said (codes "source fault")
-line_of Output = said (codes "output fault")
-line_of Memory = said (codes "out of memory")
-line_of (NotYet command) = said (codes "not yet at command " ++ decimal command)
+line_of (Input offset why) = message (codes "input refused at " ++ decimal offset)
+line_of WordsRefused = message (codes "words refused")
+line_of SourceFault = message (codes "source fault")
+line_of Output = message (codes "output fault")
+line_of Memory = message (codes "out of memory")
+line_of (NotYet command) = message (codes "not yet at command " ++ decimal command)
 
 -- the end of a run where a pull gave no piece
 abbrev pub status_of_pull : PullFault → Status

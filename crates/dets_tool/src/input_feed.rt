@@ -35,7 +35,7 @@ pub enum PullFault {
 
 /// Whether a feed still reads.
 #[derive(Clone, Copy)]
-pub enum FeedState {
+pub enum InputState {
     /// The next pull makes a read.
     Reading,
     /// A read gave no bytes.
@@ -55,14 +55,14 @@ pub struct InputFeed {
     filled: usize,
     // How many bytes are left of the budget.
     room: u64,
-    state: FeedState,
+    state: InputState,
 }
 
 impl Model for InputFeed {
     ghost use Rattle.std.specs.Prelude.{◌≡◌, ◌≤◌, take, length};
-    ghost use Rattle.dets_tool.specs.FeedValue.{FeedValue};
+    ghost use Rattle.dets_tool.specs.InputFeed.{InputFeedValue};
 
-    ghost Value = { FeedValue };
+    ghost Value = { InputFeedValue };
 
     ghost view = { λ a. record {
       room = a.room;
@@ -74,7 +74,7 @@ impl Model for InputFeed {
 }
 
 impl InputFeed {
-    ghost use Rattle.dets_tool.specs.FeedValue.{fresh_feed, Pulled, AnswersAgain};
+    ghost use Rattle.dets_tool.specs.InputFeed.{fresh_feed, Pulled, AnswersAgain};
 
     /// A feed that takes at most `budget` bytes. All memory of its pulls is taken here.
     /// `Memory`: there was none for the pieces.
@@ -86,7 +86,7 @@ impl InputFeed {
             spare: vec![in alloc; 0; PIECE]?,
             filled: 0,
             room: budget,
-            state: FeedState::Reading,
+            state: InputState::Reading,
         })
     }
 
@@ -103,7 +103,7 @@ impl InputFeed {
     /// nothing was left of the budget, and it gave a byte. `SourceFault`: it failed; the feed is as it was, and
     /// the next pull reads again. After `End` and `TooMuch` each pull answers the same and makes no read.
     pub fn pull<S: Source>(&mut self, source: &mut S) -> Result<Piece, PullFault>
-        ensures reads { self.old.state ≡ FeedState.Reading
+        ensures reads { self.old.state ≡ InputState.Reading
             → Pulled result self.old self.new (S.told source.old) (S.told source.new) }
         ensures cause { IsErrOf result PullFault.SourceFault
             → Rose (S.faults source.old) (S.faults source.new) }
@@ -112,19 +112,19 @@ impl InputFeed {
 
         // After the end and past the budget.
         ensures again { AnswersAgain self.old.state result }
-        ensures same_feed { self.old.state ≢ FeedState.Reading → self.new ≡ self.old }
-        ensures no_read { self.old.state ≢ FeedState.Reading → source.new ≡ source.old }
+        ensures same_feed { self.old.state ≢ InputState.Reading → self.new ≡ self.old }
+        ensures no_read { self.old.state ≢ InputState.Reading → source.new ≡ source.old }
     {
         match self.state {
-            FeedState::Reading => self.read(source),
-            FeedState::Ended => Ok(Piece::End),
-            FeedState::TooMuch => Err(PullFault::TooMuch),
+            InputState::Reading => self.read(source),
+            InputState::Ended => Ok(Piece::End),
+            InputState::TooMuch => Err(PullFault::TooMuch),
         }
     }
 
     // The pull of a feed that still reads.
     fn read<S: Source>(&mut self, source: &mut S) -> Result<Piece, PullFault>
-        requires { self.old.state ≡ FeedState.Reading }
+        requires { self.old.state ≡ InputState.Reading }
         ensures reads { Pulled result self.old self.new (S.told source.old) (S.told source.new) }
         ensures cause { IsErrOf result PullFault.SourceFault
             → Rose (S.faults source.old) (S.faults source.new) }
@@ -136,12 +136,12 @@ impl InputFeed {
             Err(SourceFailed) => Err(PullFault::SourceFault),
             Ok(0) => {
                 self.filled = 0;
-                self.state = FeedState::Ended;
+                self.state = InputState::Ended;
                 Ok(Piece::End)
             }
             Ok(_) if self.room == 0 => {
                 self.filled = 0;
-                self.state = FeedState::TooMuch;
+                self.state = InputState::TooMuch;
                 Err(PullFault::TooMuch)
             }
             Ok(n) => {

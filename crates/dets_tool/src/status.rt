@@ -1,6 +1,6 @@
 // How a run ends.
 ghost use Rattle.std.specs.Prelude.{◌≡◌, ◌++◌, decimal, IfOk};
-ghost use Rattle.dets_tool.specs.Status.{code_of, line_of, said};
+ghost use Rattle.dets_tool.specs.Status.{code_of, line_of, message};
 ghost use Rattle.dets_tool.specs.declared.status.Status.TheVariants.{Memory as OutOfMemory};
 
 use crate::Memory;
@@ -76,7 +76,7 @@ impl Status {
 
 // The line that says this text.
 fn plain_line(alloc: Global, text: &[u8]) -> Result<ByteList, Memory>
-    ensures { IfOk result (λ line. line ≡ said text.now) }
+    ensures { IfOk result (λ line. line ≡ message text.now) }
 {
     let mut line = ByteList::new(alloc);
     line.extend_from_slice(b"dets_tool: ")?;
@@ -87,7 +87,7 @@ fn plain_line(alloc: Global, text: &[u8]) -> Result<ByteList, Memory>
 
 // The line that says this text and the number behind it.
 fn numbered_line(alloc: Global, text: &[u8], number: u64) -> Result<ByteList, Memory>
-    ensures { IfOk result (λ line. line ≡ said (text.now ++ decimal number)) }
+    ensures { IfOk result (λ line. line ≡ message (text.now ++ decimal number)) }
 {
     let mut whole = ByteList::new(alloc);
     whole.extend_from_slice(text)?;

@@ -4,7 +4,8 @@ use Rattle.std.proofs.lemmas.List.{take-append-le}
 use Rattle.host_model.specs.Source.{Stream}
 use Rattle.dets_tool.proofs.input_feed.read_front.Goals as goal
 
-given_front : {E : Type 0} (r : Result ℕ E) (told : Option Stream) (front rest : List ℕ) → IfOk r (λ n. n ≤ length front) → IfOk r (λ n. IfSome told (λ s. take n front ≡ take n s.left)) → IfOk r (λ n. IfSome told (λ s. take n (front ++ rest) ≡ take n s.left))
+given_front : {E : Type 0} (r : Result ℕ E) (told : Option Stream) (front rest : List ℕ) → IfOk r (λ n. n ≤ length front)
+    → IfOk r (λ n. IfSome told (λ s. take n front ≡ take n s.left)) → IfOk r (λ n. IfSome told (λ s. take n (front ++ rest) ≡ take n s.left))
 given_front (Ok n) (Some s) front rest fits given = take-append-le n front rest fits ∙ given
 given_front (Ok n) None front rest fits given = tt
 given_front (Err e) told front rest fits given = tt

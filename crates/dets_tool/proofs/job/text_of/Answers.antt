@@ -7,5 +7,6 @@ use Rattle.dets_tool.proofs.job.text_of.Goals as goal
 
 pub returns : goal.returns
 returns c =
-    let all = YieldsList-end (YieldsList-from_chars c.args.word.now c.utf8.word cc) c.loop-item.yielded _ c.loop-item.yielded_by _ _ c.in-None.is c.next.ensures.steps in
+    let start = YieldsList-from_chars c.args.word.now c.utf8.word cc in
+    let all = YieldsList-end start c.loop-item.yielded _ c.loop-item.yielded_by _ _ c.in-None.is c.next.ensures.steps in
     c.loop-item.invariant ∙ sym (map-id c.loop-item.yielded) ∙ all.0

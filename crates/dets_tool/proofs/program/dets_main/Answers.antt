@@ -8,7 +8,9 @@ pub returns-clause-run : goal.returns-clause-run
 returns-clause-run g c = λ job stream words told ended.
     elim c.match-job_of.branch [
       | in-Ok-Run w ↦ rw (w.result-is, w.source-is, w.host-is) (w.run.ensures.ran stream told ended)
-      | in-Err-Refused w ↦ absurd (let clash : None ≡ Some job = sym (c.job_of.ensures.refused.0 (w.in-Err-Refused.is ∙ ap Err w.in-Err-Refused.field-0-is)) ∙ words in cc)
+      | in-Err-Refused w ↦
+          let refused = c.job_of.ensures.refused.0 (w.in-Err-Refused.is ∙ ap Err w.in-Err-Refused.field-0-is) in
+          absurd (let clash : None ≡ Some job = sym refused ∙ words in cc)
       | in-Err-Memory w ↦ rw (w.result-is, w.source-is, w.host-is) (no_input stream _ _ told ended)
     ]
 

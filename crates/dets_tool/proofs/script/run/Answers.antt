@@ -9,7 +9,8 @@ use Rattle.dets_tool.proofs.script.run.Goals.{in-Ok, in-Err}
 use Rattle.dets_tool.proofs.script.run.Goals as goal
 
 -- the clients' exit leaves the end, or finds no memory
-at_close : (status end : Status) (input : List ℕ) (after : Option Stream) (said now : Option (List ℕ)) → (status ≡ end) ⊎ (status ≡ Memory) → Ran end input after said now → Ran status input after said now
+at_close : (status end : Status) (input : List ℕ) (after : Option Stream) (said now : Option (List ℕ)) → (status ≡ end) ⊎ (status ≡ Memory)
+    → Ran end input after said now → Ran status input after said now
 at_close status end input after said now (inl e) r = subst (λ (s : Status). Ran s input after said now) (sym e) r
 at_close status end input after said now (inr e) r = subst (λ (s : Status). Ran s input after said now) (sym e) (ran_without_memory end input after said now r)
 
@@ -20,8 +21,10 @@ returns-clause-ran g c = λ stream told ended.
       | in-Err w ↦ ap status_of_run w.in-Err.is ∙ sym w.end-is
     ] in
     at_close _ _ _ _ _ _ c.close.ensures.end
-    (subst (λ h. Ran c.match-serve_input.end stream.left (g.S.Source.told c.serve_input.new.source) (g.H.Host.shows c.args.host.now).said (g.H.Host.shows h).said) (sym c.close.ensures.host)
-    (subst (λ (s : Status). Ran s stream.left (g.S.Source.told c.serve_input.new.source) (g.H.Host.shows c.args.host.now).said (g.H.Host.shows c.serve_input.new.host).said) end
+    (subst (λ h. Ran c.match-serve_input.end stream.left (g.S.Source.told c.serve_input.new.source) (g.H.Host.shows c.args.host.now).said
+    (g.H.Host.shows h).said) (sym c.close.ensures.host)
+    (subst (λ (s : Status). Ran s stream.left (g.S.Source.told c.serve_input.new.source) (g.H.Host.shows c.args.host.now).said
+    (g.H.Host.shows c.serve_input.new.host).said) end
     (c.serve_input.ensures.ran stream told ended)))
 
 pub returns-clause-no_source_fault : goal.returns-clause-no_source_fault

@@ -15,7 +15,8 @@ returns-then-is_err-clause-unserved g c = (
     c.step.new.self.state,
     c.in-Ok.ensures.ok,
     subst (λ h. SaysFront (reply_line c.in-Ok.reply) (g.H.Host.shows h).said (g.H.Host.shows c.put.new.self).said) c.step.ensures.host
-        (subst (λ (l : List ℕ). SaysFront l (g.H.Host.shows c.step.new.host).said (g.H.Host.shows c.put.new.self).said) (c.as_slice.ensures ∙ c.in_ok-line.ensures)
+        (subst (λ (l : List ℕ). SaysFront l (g.H.Host.shows c.step.new.host).said (g.H.Host.shows c.put.new.self).said)
+        (c.as_slice.ensures ∙ c.in_ok-line.ensures)
         (failed c.put.result c.if-is_err.ensures.value c.put.ensures.front)),
   ),
 )

@@ -1,11 +1,12 @@
-use Rattle.std.proofs.Common.{◌≡◌, ◌≢◌, ℕ, ◌^◌, false, List, length, Result, Ok, Err, inl, ap, ◌∙◌, refl, sym, subst, arith}
+use Rattle.std.proofs.Common.{◌≡◌, ◌≢◌, ℕ, ◌^◌, false, List, length, Option, Result, Ok, Err, inl, ap, ◌∙◌, refl, sym, subst, arith}
 use Rattle.std.proofs.lemmas.Result.{err_from_is_err_and}
+use Rattle.host_model.specs.Source.{Stream}
 use Rattle.term_text.specs.FeedState.{FeedState, total}
 use Rattle.term_text.specs.Script.{Answers}
 use Rattle.etf_model.specs.declared.fed.Fed.TheVariants.{Again}
 use Rattle.term_text.proofs.Existence.{nothing_fed}
 use Rattle.dets_machine.specs.MachineValue.{MachineValue}
-use Rattle.dets_tool.specs.FeedValue.{FeedValue, Pulled, GivesPiece}
+use Rattle.dets_tool.specs.InputFeed.{InputFeedValue, Pulled}
 use Rattle.dets_tool.specs.declared.input_feed.Piece.{Piece}
 use Rattle.dets_tool.specs.declared.status.Status.TheVariants.{SourceFault}
 use Rattle.dets_tool.specs.Serving.{standing, with_piece, Serves, Breaks}
@@ -15,6 +16,10 @@ use Rattle.dets_tool.proofs.script.Script.serve_input.Goals as goal
 ok_is_no_err : {A E : Type 0} (a : A) (e : E) (r : Result A E) → r ≡ Ok a → r ≢ Err e
 ok_is_no_err a e r is f = let clash : Ok a ≡ Err e = sym is ∙ f in cc
 
+Pulled-as : (a b : Piece) (old new : InputFeedValue) (before after : Option Stream) → a ≡ b → Pulled (Ok a) old new before after
+    → Pulled (Ok b) old new before after
+Pulled-as a b old new before after is p = subst (λ (x : Piece). Pulled (Ok x) old new before after) is p
+
 pub returns-in_err-input-clause-ran : goal.returns-in_err-input-clause-ran
 returns-in_err-input-clause-ran g c = λ stream told ended.
     let p = err_from_is_err_and c.from_residual.result c.from_residual.ensures.1 in
@@ -22,10 +27,10 @@ returns-in_err-input-clause-ran g c = λ stream told ended.
 
 pub loop-input-init : goal.loop-input-init
 loop-input-init g c =
-    let room : c.in_ok-input.input.room ≡ 2 ^ 32 = ap (λ (f : FeedValue). f.room) c.in_ok-input.ensures in
+    let room : c.in_ok-input.input.room ≡ 2 ^ 32 = ap (λ (f : InputFeedValue). f.room) c.in_ok-input.ensures in
     record {
       budget = omega (arith, room, ap total c.requires.text);
-      open_input = ap (λ (f : FeedValue). f.state) c.in_ok-input.ensures;
+      open_input = ap (λ (f : InputFeedValue). f.state) c.in_ok-input.ensures;
       ready = record {
         at_end = ap (λ (t : FeedState). t.finished) c.requires.text;
         not_refused = ap (λ (t : FeedState). t.refused) c.requires.text;
@@ -47,9 +52,7 @@ returns-in_err-pull-clause-ran g c = λ stream told ended.
 
 pub loop-input-preserved : goal.loop-input-preserved
 loop-input-preserved g c =
-    let piece : GivesPiece c.loop-input.input c.pull.new.self (g.S.Source.told c.loop-input.source) (g.S.Source.told c.pull.new.source)
-    = subst (λ (a : Piece). Pulled (Ok a) c.loop-input.input c.pull.new.self (g.S.Source.told c.loop-input.source) (g.S.Source.told c.pull.new.source)) c.in-Bytes.is
-    (c.in_ok-pull.ensures.reads c.loop-input.invariant.open_input) in
+    let piece = Pulled-as _ _ _ _ _ _ c.in-Bytes.is (c.in_ok-pull.ensures.reads c.loop-input.invariant.open_input) in
     record {
       budget = omega (arith, c.loop-input.invariant.budget, piece.room, c.in_ok-serve_piece.ensures.fed, ap length c.piece.ensures);
       open_input = piece.goes_on;
@@ -66,25 +69,21 @@ loop-input-preserved g c =
 pub returns-in_err-serve_piece-clause-ran : goal.returns-in_err-serve_piece-clause-ran
 returns-in_err-serve_piece-clause-ran g c = λ stream told ended.
     let p = err_from_is_err_and c.from_residual-in_err-serve_piece.result c.from_residual-in_err-serve_piece.ensures.1 in
-    let piece : GivesPiece c.loop-input.input c.pull.new.self (g.S.Source.told c.loop-input.source) (g.S.Source.told c.pull.new.source)
-    = subst (λ (a : Piece). Pulled (Ok a) c.loop-input.input c.pull.new.self (g.S.Source.told c.loop-input.source) (g.S.Source.told c.pull.new.source)) c.in-Bytes.is
-    (c.in_ok-pull.ensures.reads c.loop-input.invariant.open_input) in
+    let piece = Pulled-as _ _ _ _ _ _ c.in-Bytes.is (c.in_ok-pull.ensures.reads c.loop-input.invariant.open_input) in
     rw (p.1, p.2)
     (piece_breaks c.in_err-serve_piece.field-0.0 stream.left _ _ _ _ _ _ _ (c.loop-input.invariant.taken stream told ended) piece
-    (subst (λ (l : List ℕ). Breaks c.in_err-serve_piece.field-0.0 false (with_piece l (standing c.loop-input.self (g.H.Host.shows c.loop-input.host))) (g.H.Host.shows c.serve_piece.new.host).said) c.piece.ensures
-    c.in_err-serve_piece.ensures.served.breaks))
+    (subst (λ (l : List ℕ). Breaks c.in_err-serve_piece.field-0.0 false (with_piece l (standing c.loop-input.self (g.H.Host.shows c.loop-input.host)))
+    (g.H.Host.shows c.serve_piece.new.host).said) c.piece.ensures c.in_err-serve_piece.ensures.served.breaks))
 
 pub returns-in_err-serve_piece-clause-source_fault : goal.returns-in_err-serve_piece-clause-source_fault
 returns-in_err-serve_piece-clause-source_fault g c = λ e.
     let p = err_from_is_err_and c.from_residual-in_err-serve_piece.result c.from_residual-in_err-serve_piece.ensures.1 in
     let same : p.0 ≡ SourceFault = cc in
-    absurd (no_source_fault c.in_err-serve_piece.field-0.0 false (with_piece c.piece.result.now (standing c.loop-input.self (g.H.Host.shows c.loop-input.host))) (g.H.Host.shows c.serve_piece.new.host).said c.in_err-serve_piece.ensures.served.breaks (sym p.2 ∙ same))
+    absurd (no_source_fault _ _ _ _ c.in_err-serve_piece.ensures.served.breaks (sym p.2 ∙ same))
 
 pub returns-clause-ran : goal.returns-clause-ran
 returns-clause-ran g c = λ stream told ended.
-    input_ends c.serve_whole.result stream.left c.loop-input.input c.pull.new.self (g.S.Source.told c.loop-input.source) (g.S.Source.told c.pull.new.source) (g.H.Host.shows c.args.host.now).said
-    c.loop-input.self c.serve_whole.new.self c.finish.new.self (g.H.Host.shows c.loop-input.host) (g.H.Host.shows c.serve_whole.new.host)
-    (c.loop-input.invariant.taken stream told ended)
-    (subst (λ (a : Piece). Pulled (Ok a) c.loop-input.input c.pull.new.self (g.S.Source.told c.loop-input.source) (g.S.Source.told c.pull.new.source)) c.in_default.is
-    (c.in_ok-pull.ensures.reads c.loop-input.invariant.open_input))
+    input_ends _ stream.left c.loop-input.input c.pull.new.self _ _ _ c.loop-input.self c.serve_whole.new.self c.finish.new.self
+    (g.H.Host.shows c.loop-input.host) (g.H.Host.shows c.serve_whole.new.host) (c.loop-input.invariant.taken stream told ended)
+    (Pulled-as _ _ _ _ _ _ c.in_default.is (c.in_ok-pull.ensures.reads c.loop-input.invariant.open_input))
     c.finish.ensures c.serve_whole.ensures.waiting c.serve_whole.ensures.served

@@ -1,7 +1,7 @@
 use Rattle.std.proofs.Common.{◌≡◌, ◌≤◌, ◌+◌, ◌^◌, false, Some}
 use Rattle.host_model.specs.Source.{Stream}
 use Rattle.term_text.specs.FeedState.{total}
-use Rattle.dets_tool.specs.declared.input_feed.FeedState.TheVariants.{Reading}
+use Rattle.dets_tool.specs.declared.input_feed.InputState.TheVariants.{Reading}
 use Rattle.dets_tool.specs.Serving.{standing, IsWaiting, IsReady}
 use Rattle.dets_tool.proofs.InputRuns.{HasTaken}
 use Rattle.dets_tool.proofs.script.Script.serve_input.Given as goal

@@ -12,7 +12,11 @@ returns-in_err-serve-in-Ok-Term-clause-served g c =
     rw (p.1, p.2) (record {
       served = tt;
       ready = tt;
-      breaks = record { here = _; served = Serves-none _ _; stops = at_command _ c.in-Ok-Term.command next.0 next.2 (IsUnserved-left _ _ _ _ _ c.in_err-serve-in-Ok-Term.ensures.unserved) };
+      breaks = record {
+        here = _;
+        served = Serves-none _ _;
+        stops = at_command _ c.in-Ok-Term.command next.0 next.2 (IsUnserved-left _ _ _ _ _ c.in_err-serve-in-Ok-Term.ensures.unserved);
+      };
     })
 
 pub returns-in_ok-serve-in-Ok-Term-clause-served : goal.returns-in_ok-serve-in-Ok-Term-clause-served
@@ -24,28 +28,30 @@ returns-in_ok-serve-in-Ok-Term-clause-served g c =
         at_end = ap (λ (t : FeedState). t.finished) c.serve.ensures.text ∙ next.1.finished;
         not_refused = ap (λ (t : FeedState). t.refused) c.serve.ensures.text ∙ next.1.refused ∙ c.requires.ready.not_refused;
         not_starved = c.in_ok-serve-in-Ok-Term.ensures.not_starved;
-        counted = omega (arith, c.in_ok-serve-in-Ok-Term.ensures.served.replied, next.1.some, next.1.offset, ap (λ (t : FeedState). t.offset) c.serve.ensures.text);
+        counted =
+            omega (
+              arith,
+              c.in_ok-serve-in-Ok-Term.ensures.served.replied,
+              next.1.some,
+              next.1.offset,
+              ap (λ (t : FeedState). t.offset) c.serve.ensures.text,
+            );
       };
       breaks = tt;
     }
 
 pub returns-in-Err-NotYet-clause-served : goal.returns-in-Err-NotYet-clause-served
-returns-in-Err-NotYet-clause-served g c = record {
-  served = tt;
-  ready = tt;
-  breaks = record { here = _; served = Serves-none _ _; stops = at_text (answered (c.next.ensures.not_yet (c.in-Err-NotYet.is ∙ ap Err c.in-Err-NotYet.field-0-is)).1) refl };
-}
+returns-in-Err-NotYet-clause-served g c =
+    let fault = c.next.ensures.not_yet (c.in-Err-NotYet.is ∙ ap Err c.in-Err-NotYet.field-0-is) in
+    record { served = tt; ready = tt; breaks = record { here = _; served = Serves-none _ _; stops = at_text (answered fault.1) refl } }
   where
     answered : {P : Type 0} → (c.args.self.now.text.refused ≡ true) ⊎ P → P
     answered (inl e) = let clash : true ≡ false = sym e ∙ c.requires.ready.not_refused in cc
     answered (inr a) = a
 
 pub returns-in-Err-Memory-clause-served : goal.returns-in-Err-Memory-clause-served
-returns-in-Err-Memory-clause-served g c = record {
-  served = tt;
-  ready = tt;
-  breaks = record { here = _; served = Serves-none _ _; stops = at_memory refl };
-}
+returns-in-Err-Memory-clause-served g c =
+    record { served = tt; ready = tt; breaks = record { here = _; served = Serves-none _ _; stops = at_memory refl } }
 
 pub returns-in-Ok-Again-clause-served : goal.returns-in-Ok-Again-clause-served
 returns-in-Ok-Again-clause-served g c =
