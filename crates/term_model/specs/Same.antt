@@ -16,16 +16,16 @@ both_equal Less p e = cc
 both_equal Equal p e = (refl, e)
 both_equal Greater p e = cc
 
-settled : (P Q R : Type 0) (o : Ordering) → MatchOrdering o P Q R → o ≡ Equal → Q
-settled P Q R Less h e = cc
-settled P Q R Equal h e = h
-settled P Q R Greater h e = cc
+when_equal : (P Q R : Type 0) (o : Ordering) → MatchOrdering o P Q R → o ≡ Equal → Q
+when_equal P Q R Less h e = cc
+when_equal P Q R Equal h e = h
+when_equal P Q R Greater h e = cc
 
 same_nat : (x y : ℕ) → nat_cmp x y ≡ Equal → x ≡ y
-same_nat x y e = settled _ _ _ (nat_cmp x y) (ranked x y (nat_cmp x y) refl) e
+same_nat x y e = when_equal _ _ _ (nat_cmp x y) (ranked x y (nat_cmp x y) refl) e
 
 same_int : (x y : ℤ) → int_cmp x y ≡ Equal → x ≡ y
-same_int x y e = settled _ _ _ (int_cmp x y) (int_ranked x y (int_cmp x y) refl) e
+same_int x y e = when_equal _ _ _ (int_cmp x y) (int_ranked x y (int_cmp x y) refl) e
 
 same_bool : (x y : Bool) → bool_cmp x y ≡ Equal → x ≡ y
 same_bool false false e = refl
