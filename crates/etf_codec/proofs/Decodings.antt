@@ -3,11 +3,11 @@ use Rattle.std.proofs.Common.{◌≡◌, ℕ, ◌+◌, ◌⊎◌, List, Result, 
 use Rattle.std.specs.Result.{IsErrAnd}
 use Rattle.dets_term.specs.TermValue.{TermValue}
 use Rattle.etf_model.specs.declared.fault.EtfFault.{EtfFault}
-use Rattle.etf_model.specs.declared.fault.EtfFault.TheVariants.{Memory}
+use Rattle.etf_model.specs.declared.fault.EtfFault.TheVariants.{LongTerm, Memory}
 use Rattle.etf_model.specs.Decoding.{IsDecoding}
 use Rattle.etf_model.specs.Format.{Place}
 use Rattle.etf_model.specs.Spelling.{spelling}
-use Rattle.etf_model.specs.SpellingExact.{spelling-exact}
+use Rattle.etf_model.specs.SpellingExact.{spelling-exact, spelling_lacks_long}
 use Rattle.etf_codec.specs.declared.term_reader.TermReader.{TermReader}
 use Rattle.etf_codec.specs.TermReader.{IsFresh, reads_next, reads_on}
 use Rattle.etf_codec.proofs.Answering.{front_read, fault_read}
@@ -31,3 +31,10 @@ module _ (bytes : List ℕ) (reader : TermReader) (fresh : IsFresh reader) (star
   not_decoded (Ok t) fault h e = absurd h
   not_decoded (Err y) fault h (inl memory) = subst (λ f. IsDecoding bytes (Err f)) (sym (h ∙ memory)) tt
   not_decoded (Err y) fault h (inr e) = subst (λ f. IsDecoding bytes (Err f)) (sym h) (fault_read spelling spelling-exact 0 bytes fault (sym from_front ∙ e))
+
+-- no decoding says that a term is too long
+pub decoding_not_long : (bytes : List ℕ) (answer : Result (TermValue × ℕ) EtfFault) → IsDecoding bytes answer
+    → (at : ℕ) → answer ≡ Err (LongTerm at) → ⊥
+decoding_not_long bytes answer d at e =
+    let long = subst (IsDecoding bytes) e d in
+    (spelling_lacks_long at).no_break 0 0 long.front long.holds

@@ -19,13 +19,16 @@ long_fails n h = grind (arith, nat_tests)
 -- the answer for a text is that for its bytes in UTF-8
 pub IsAtomOf-utf8 : (text bytes : List ℕ) (term : ℕ) (r : Result TermValue EtfFault) → text ≡ bytes → IsUtf8 bytes
     → IfOk r (λ t. (length (chars text) ≤ 255) × (t ≡ atom (chars text)))
-    → IfErr r (λ fault. (fault ≡ Memory) ⊎ ((255 < length (chars text)) × (fault ≡ BadAtom term)))
+    → IfErr r (λ fault. ((length (chars text) ≤ 255) × (fault ≡ Memory)) ⊎ ((255 < length (chars text)) × (fault ≡ BadAtom term)))
     → IsAtomOf true bytes term r
 IsAtomOf-utf8 text bytes term (Ok t) same utf8 ok err =
     let e = is_utf8-from_IsUtf8 bytes utf8 in
     let short = short_passes (length (chars bytes)) (subst (λ (bs : List ℕ). length (chars bs) ≤ 255) same ok.0) in
     (rw (e, short) refl, ok.1 ∙ ap (λ bs. atom (chars bs)) same)
-IsAtomOf-utf8 text bytes term (Err fault) same utf8 ok (inl memory) = inl memory
+IsAtomOf-utf8 text bytes term (Err fault) same utf8 ok (inl memory) =
+    let e = is_utf8-from_IsUtf8 bytes utf8 in
+    let short = short_passes (length (chars bytes)) (subst (λ (bs : List ℕ). length (chars bs) ≤ 255) same memory.0) in
+    inl (rw (e, short) refl, memory.1)
 IsAtomOf-utf8 text bytes term (Err fault) same utf8 ok (inr bad) =
     let e = is_utf8-from_IsUtf8 bytes utf8 in
     let long = long_fails (length (chars bytes)) (subst (λ (bs : List ℕ). 255 < length (chars bs)) same bad.0) in
@@ -40,10 +43,11 @@ is_name-not_utf8 bytes bad = not_utf8 bytes (is_utf8 bytes) refl bad where
 -- the answer for a text of these characters is that for them in Latin-1
 pub IsAtomOf-latin_1 : (text bytes : List ℕ) (term : ℕ) (r : Result TermValue EtfFault) → chars text ≡ bytes
     → IfOk r (λ t. (length (chars text) ≤ 255) × (t ≡ atom (chars text)))
-    → IfErr r (λ fault. (fault ≡ Memory) ⊎ ((255 < length (chars text)) × (fault ≡ BadAtom term)))
+    → IfErr r (λ fault. ((length (chars text) ≤ 255) × (fault ≡ Memory)) ⊎ ((255 < length (chars text)) × (fault ≡ BadAtom term)))
     → IsAtomOf false bytes term r
 IsAtomOf-latin_1 text bytes term (Ok t) same ok err =
     (short_passes (length bytes) (subst (λ (cs : List ℕ). length cs ≤ 255) same ok.0), ok.1 ∙ ap atom same)
-IsAtomOf-latin_1 text bytes term (Err fault) same ok (inl memory) = inl memory
+IsAtomOf-latin_1 text bytes term (Err fault) same ok (inl memory) =
+    inl (short_passes (length bytes) (subst (λ (cs : List ℕ). length cs ≤ 255) same memory.0), memory.1)
 IsAtomOf-latin_1 text bytes term (Err fault) same ok (inr bad) =
     inr (long_fails (length bytes) (subst (λ (cs : List ℕ). 255 < length cs) same bad.0), bad.1)

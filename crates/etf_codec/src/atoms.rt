@@ -6,10 +6,14 @@ ghost use Rattle.etf_codec.specs.Reads.{ReadsWithin};
 ghost use Rattle.etf_codec.specs.ReadTerms.{IsLeaf, IsAtomOf};
 
 use crate::EtfFault;
+use crate::building::only_memory;
 use crate::cursor::Cursor;
 use bstr::ByteSlice;
 use dets_term::{Term, TermFault, Text};
 use std::alloc::Global;
+
+/// How many characters an atom has at most.
+const MAX_CHARACTERS: usize = 255;
 
 /// The atom that begins at an offset, in UTF-8 or else in Latin-1, behind its length in so many bytes, at most four.
 pub(crate) fn read_atom(
@@ -31,7 +35,7 @@ pub(crate) fn read_atom(
     }
 }
 
-/// The atom of these characters in UTF-8.
+/// The atom of these characters in UTF-8. `BadAtom` where they are none or too many, `Memory` only where they are not.
 fn utf8_atom(alloc: Global, bytes: &[u8], term: u64) -> Result<Term, EtfFault>
     ensures { IsAtomOf true bytes.now term result }
 {
@@ -41,10 +45,13 @@ fn utf8_atom(alloc: Global, bytes: &[u8], term: u64) -> Result<Term, EtfFault>
     }
 }
 
-/// The atom of these characters in Latin-1.
+/// The atom of these characters in Latin-1. `BadAtom` where they are too many, `Memory` only where they are not.
 fn latin_1_atom(alloc: Global, bytes: &[u8], term: u64) -> Result<Term, EtfFault>
     ensures { IsAtomOf false bytes.now term result }
 {
+    if bytes.len() > MAX_CHARACTERS {
+        return Err(EtfFault::BadAtom(term));
+    }
     let mut text = Text::new(alloc);
     for byte in bytes {
         text.push(char::from(*byte))?;
@@ -55,12 +62,11 @@ fn latin_1_atom(alloc: Global, bytes: &[u8], term: u64) -> Result<Term, EtfFault
 /// The atom of a text, `BadAtom` above 255 characters.
 fn named(alloc: Global, text: &str, term: u64) -> Result<Term, EtfFault>
     ensures ok { IfOk result (λ t. (length (chars text.now) ≤ 255) × (t ≡ atom (chars text.now))) }
-    ensures err { IfErr result (λ fault. (fault ≡ EtfFault.Memory) ⊎ ((255 < length (chars text.now))
-        × (fault ≡ EtfFault.BadAtom term))) }
+    ensures err { IfErr result (λ fault. ((length (chars text.now) ≤ 255) × (fault ≡ EtfFault.Memory))
+        ⊎ ((255 < length (chars text.now)) × (fault ≡ EtfFault.BadAtom term))) }
 {
     match Term::atom(alloc, text) {
-        Ok(t) => Ok(t),
         Err(TermFault::LongAtom) => Err(EtfFault::BadAtom(term)),
-        Err(_) => Err(EtfFault::Memory),
+        made => only_memory(made),
     }
 }

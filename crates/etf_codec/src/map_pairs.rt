@@ -52,10 +52,8 @@ impl MapPairs {
         ensures ok { OnOk result (self.new ≡ placed (key, value) self.old) }
         ensures err { OnErr result (self.new ≡ self.old) }
     {
-        match self.sorted.insert(key, value) {
-            Ok(_) => Ok(()),
-            Err(_) => Err(Memory),
-        }
+        self.sorted.insert(key, value)?;
+        Ok(())
     }
 
     /// All pairs by ascending key.

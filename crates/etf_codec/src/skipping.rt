@@ -1,5 +1,5 @@
-ghost use Rattle.std.specs.Prelude.{ℕ, ◌≤◌, ◌+◌, ◌*◌, ◌<◌, ◌^◌};
-ghost use Rattle.etf_model.specs.Skipping.{has_layout, gap, sized_gap, node, at_node, reference, parts, counted, skip_body, skipped_at, SkipsBy};
+ghost use Rattle.std.specs.Prelude.{ℕ, ◌≤◌, ◌+◌, ◌*◌, ◌<◌, ◌^◌, IfErr};
+ghost use Rattle.etf_model.specs.Skipping.{has_layout, gap, sized_gap, node, at_node, reference, parts, counted, skip_body, skipped_at, SkipsBy, IsSkipFault};
 ghost use Rattle.etf_model.specs.declared.fault.EtfFault.TheVariants.{Unsupported};
 ghost use Rattle.etf_codec.specs.Reads.{Reads, ReadsAs, behind_tag};
 
@@ -12,10 +12,10 @@ mod tests;
 /// How many levels a term that is passed over has at most.
 const MAX_LEVELS: u32 = 256;
 
-/// The length of the term that begins the bytes with its tag. `Short`, `Unsupported` and `Depth` only. It takes no
-/// memory.
+/// The length of the term that begins the bytes with its tag. It takes no memory.
 pub fn skip(bytes: &[u8]) -> Result<usize, EtfFault>
-    ensures { SkipsBy bytes.now result }
+    ensures skips { SkipsBy bytes.now result }
+    ensures faults { IfErr result IsSkipFault }
 {
     let mut cursor = Cursor::new(0, bytes);
     skip_term(&mut cursor, MAX_LEVELS)?;

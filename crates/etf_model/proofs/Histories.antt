@@ -26,19 +26,19 @@ take_behind (suc n) (x ∷ xs) ys =
     ap (λ l. x ∷ l) (take_behind n xs ys ∙ ap (λ m. take n xs ++ take m ys) fewer)
 
 -- what holds of some bytes whatever follows them holds of the bytes among which the next spelling stands, whatever is fed
-front_grows : (P : List ℕ → Type 0) → ((bytes more : List ℕ) → P bytes → P (bytes ++ more))
+pub front_grows : (P : List ℕ → Type 0) → ((bytes more : List ℕ) → P bytes → P (bytes ++ more))
     → (left more : List ℕ) → P (take longest left) → P (take longest (left ++ more))
 front_grows P grows left more h =
     subst P (sym (take_behind longest left more)) (grows (take longest left) (take (longest - length left) more) h)
 
-term_grows : (t : TermValue) (count : ℕ) (bytes more : List ℕ) → IsFront spelling bytes t count
+pub term_grows : (t : TermValue) (count : ℕ) (bytes more : List ℕ) → IsFront spelling bytes t count
     → IsFront spelling (bytes ++ more) t count
 term_grows t count bytes more front = record {
   fits = omega (arith, front.fits, length-append bytes more);
   whole = subst (spelling.Whole t) (sym (take-append-le count bytes more front.fits)) front.whole;
 }
 
-term_within : (left : List ℕ) (t : TermValue) (count : ℕ) → IsFront spelling (take longest left) t count
+pub term_within : (left : List ℕ) (t : TermValue) (count : ℕ) → IsFront spelling (take longest left) t count
     → count ≤ length left
 term_within left t count front =
     let whole = length-append (take longest left) (drop longest left) in

@@ -14,3 +14,5 @@ pub mod CanonicalSpells
 pub mod OneDecoding
 pub mod OneAnswer
 pub mod Histories
+pub mod FirstTerms
+pub mod Streams

@@ -145,7 +145,7 @@ end_next start bytes (Err Memory) h = absurd h
 end_next start bytes (Err fault) b = fault_next (whole_feed start bytes) fault (b, refl) (λ m. cc)
 
 -- a term of the stream is in front
-abbrev IsFirst : List ℕ → TermValue → ℕ → Type 0
+abbrev pub IsFirst : List ℕ → TermValue → ℕ → Type 0
 IsFirst bytes t count = IsFront spelling (take longest bytes) t count
 
 term_next : (start : ℕ) (bytes : List ℕ) (t : TermValue) (count : ℕ) → IsFirst bytes t count
@@ -154,14 +154,14 @@ term_next start bytes t count front =
     record { new = passed (whole_feed start bytes) count; next = (count, front, refl); remembers = λ m. cc }
 
 -- where a stream ends there is no term
-no_more : (start : ℕ) (bytes : List ℕ) (r : Result Fed EtfFault) (t : TermValue) (count : ℕ)
+pub no_more : (start : ℕ) (bytes : List ℕ) (r : Result Fed EtfFault) (t : TermValue) (count : ℕ)
     → EndsWith start bytes r → IsFirst bytes t count → ⊥
 no_more start bytes r t count h front =
     let s = whole_feed start bytes in
     let same = same_next s r (Ok (Term t)) (end_next start bytes r h) (term_next start bytes t count front) in
     subst (EndsWith start bytes) same h
 
-same_first : (bytes : List ℕ) (t u : TermValue) (count other : ℕ)
+pub same_first : (bytes : List ℕ) (t u : TermValue) (count other : ℕ)
     → IsFirst bytes t count → IsFirst bytes u other → (t ≡ u) × (other ≡ count)
 same_first bytes t u count other f g =
     let s = whole_feed 0 bytes in

@@ -4,7 +4,7 @@ use Rattle.etf_model.specs.Sharp.{IsSharp}
 use Rattle.etf_model.specs.Skipping.{skipped}
 use Rattle.etf_model.specs.Spelling.{spelling}
 use Rattle.etf_model.specs.SkippingKept.{skipped-kept}
-use Rattle.etf_model.specs.SpellingKept.{spelling-kept}
+use Rattle.etf_model.specs.SpellingKept.{tag_tells, depth_tells, spelling-kept}
 use Rattle.etf_model.proofs.Moving.{IsMoving, moving-kept}
 use Rattle.etf_model.proofs.Sharpness.{sharp-kept}
 
@@ -15,4 +15,4 @@ pub spelling-moving : IsMoving spelling
 spelling-moving = spelling-kept (λ A F. IsMoving F) moving-kept
 
 pub skipped-sharp : IsSharp skipped
-skipped-sharp = skipped-kept (λ A F. IsSharp F) sharp-kept
+skipped-sharp = skipped-kept (λ A F. IsSharp F) sharp-kept tag_tells depth_tells

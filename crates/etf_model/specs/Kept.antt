@@ -13,15 +13,20 @@ pub record TellsOffset {A : Type 0} (fault : ℕ → A → EtfFault) : Type 0 wh
   pub not_long : (term : ℕ) (x : A) (at : ℕ) → fault term x ≢ LongTerm at
   pub moves : (n term : ℕ) (x : A) → moved n (fault term x) ≡ fault (term + n) x
 
--- the second of two formats is looked at only where it is read, and what is tested is not empty
-pub record IsKept (P : (A : Type 0) → Format A → Type 0) : Type 1 where
+-- The second of two formats is looked at only where it is read, and what is tested is not empty. Something is known of the
+-- faults of tests.
+pub record IsKeptWhere (Told : (A : Type 0) → (ℕ → A → EtfFault) → Type 0) (P : (A : Type 0) → Format A → Type 0) : Type 1 where
   pub of_byte : P ℕ byte
   pub of_give : {A : Type 0} (value : A) → P A (give value)
   pub of_followed : {A B : Type 0} (F : Format A) (G : A → Format B) → P A F → ((x : A) (front : List ℕ) → F.Whole x front → P B (G x)) → P B (followed F G)
-  pub of_tested : {A : Type 0} (F : Format A) (test : A → Bool) (fault : ℕ → A → EtfFault) → TellsOffset fault → HasBytes F → P A F → P A (tested F test fault)
+  pub of_tested : {A : Type 0} (F : Format A) (test : A → Bool) (fault : ℕ → A → EtfFault) → Told A fault → HasBytes F → P A F → P A (tested F test fault)
   pub of_framed : {A : Type 0} (F : Format A) → P A F → P A (framed F)
 
-module _ (P : (A : Type 0) → Format A → Type 0) (kept : IsKept P) where
+-- where the faults of tests tell the offset of their term
+abbrev pub IsKept : ((A : Type 0) → Format A → Type 0) → Type 1
+IsKept P = IsKeptWhere (λ A fault. TellsOffset fault) P
+
+module _ {Told : (A : Type 0) → (ℕ → A → EtfFault) → Type 0} (P : (A : Type 0) → Format A → Type 0) (kept : IsKeptWhere Told P) where
   pub changed-kept : {A B : Type 0} (F : Format A) (f : A → B) → P A F → P B (changed F f)
   changed-kept F f p = kept.of_followed F (λ x. give (f x)) p (λ x front w. kept.of_give (f x))
 

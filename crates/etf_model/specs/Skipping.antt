@@ -3,7 +3,7 @@
 use Rattle.std.specs.Prelude.{ℕ, zero, suc, ◌+◌, ◌*◌, Bool, false, ◌||◌, ◌==◌, List, [], ◌∷◌, Result, Ok, Err, ◌≢◌}
 use Rattle.std.specs.List.{list_any}
 use Rattle.etf_model.specs.declared.fault.EtfFault.{EtfFault}
-use Rattle.etf_model.specs.declared.fault.EtfFault.TheVariants.{Unsupported, Depth, Memory}
+use Rattle.etf_model.specs.declared.fault.EtfFault.TheVariants.{Short, Unsupported, Depth, Memory}
 use Rattle.etf_model.specs.Format.{Format, byte, followed, framed, changed, either, times}
 use Rattle.etf_model.specs.Fronts.{Begins}
 use Rattle.etf_model.specs.Answers.{IsFront, Answers}
@@ -107,3 +107,10 @@ BeginsWithSkipBreak bytes = (fault : EtfFault) × Begins (λ front. SkipBreak fr
 abbrev pub SkipsBy : List ℕ → Result ℕ EtfFault → Type 0
 SkipsBy bytes (Ok count) = IsFront skipped bytes tt count
 SkipsBy bytes (Err fault) = (fault ≢ Memory) × Answers skipped 0 bytes (Err fault)
+
+-- the faults among its answers
+abbrev pub IsSkipFault : EtfFault → Type 0
+IsSkipFault Short = Unit {0}
+IsSkipFault (Unsupported at tag) = Unit {0}
+IsSkipFault (Depth at) = Unit {0}
+IsSkipFault other = ⊥

@@ -1,13 +1,15 @@
 -- A property of formats that is kept where they are put together holds of what is passed over.
 use Rattle.std.proofs.Common.{ℕ, zero, suc, ◌+◌, ◌*◌, false, ◌||◌, ◌==◌}
+use Rattle.etf_model.specs.declared.fault.EtfFault.{EtfFault}
 use Rattle.etf_model.specs.declared.fault.EtfFault.TheVariants.{Unsupported, Depth}
 use Rattle.etf_model.specs.Format.{Format, byte, followed, changed, either, times}
 use Rattle.etf_model.specs.Spelling.{number, tag_of}
 use Rattle.etf_model.specs.Skipping.{has_layout, begins_node, gap, sized_gap, node, at_node, reference, parts, counted, skip_body, skipped_at, skipped}
-use Rattle.etf_model.specs.Kept.{IsKept, changed-kept, either-kept, times-kept}
-use Rattle.etf_model.specs.SpellingKept.{tag_tells, depth_tells, number-kept, bytes-kept, tested_byte-kept}
+use Rattle.etf_model.specs.Kept.{IsKeptWhere, changed-kept, either-kept, times-kept}
+use Rattle.etf_model.specs.SpellingKept.{number-kept, bytes-kept, tested_byte-kept}
 
-module _ (P : (A : Type 0) → Format A → Type 0) (kept : IsKept P) where
+module _ {Told : (A : Type 0) → (ℕ → A → EtfFault) → Type 0} (P : (A : Type 0) → Format A → Type 0) (kept : IsKeptWhere Told P)
+    (tag_told : Told ℕ (λ term x. Unsupported term x)) (depth_told : Told ℕ (λ term x. Depth term)) where
   gap-kept : (n : ℕ) → P (Unit {0}) (gap n)
   gap-kept n = changed-kept P kept (times n byte) (λ bytes. tt) (bytes-kept P kept n)
 
@@ -18,7 +20,7 @@ module _ (P : (A : Type 0) → Format A → Type 0) (kept : IsKept P) where
   node-kept =
       kept.of_framed (followed (tag_of begins_node (λ term x. Unsupported term x)) (λ tag. either (tag == 115 || tag == 119) (sized_gap 1 0) (sized_gap 2 0)))
       (kept.of_followed (tag_of begins_node (λ term x. Unsupported term x)) (λ tag. either (tag == 115 || tag == 119) (sized_gap 1 0) (sized_gap 2 0))
-      (tested_byte-kept P kept begins_node (λ term x. Unsupported term x) tag_tells)
+      (tested_byte-kept P kept begins_node (λ term x. Unsupported term x) tag_told)
       (λ tag front w. either-kept P kept (tag == 115 || tag == 119) (sized_gap 1 0) (sized_gap 2 0) (sized_gap-kept 1 0) (λ _. sized_gap-kept 2 0)))
 
   at_node-kept : (n : ℕ) → P (Unit {0}) (at_node n)
@@ -62,11 +64,11 @@ module _ (P : (A : Type 0) → Format A → Type 0) (kept : IsKept P) where
   skipped_at-kept : (levels : ℕ) → P (Unit {0}) (skipped_at levels)
   skipped_at-kept zero =
       kept.of_framed (changed (tag_of (λ x. false) (λ term x. Depth term)) (λ x. tt))
-      (changed-kept P kept (tag_of (λ x. false) (λ term x. Depth term)) (λ x. tt) (tested_byte-kept P kept (λ x. false) (λ term x. Depth term) depth_tells))
+      (changed-kept P kept (tag_of (λ x. false) (λ term x. Depth term)) (λ x. tt) (tested_byte-kept P kept (λ x. false) (λ term x. Depth term) depth_told))
   skipped_at-kept (suc levels) =
       kept.of_framed (followed (tag_of has_layout (λ term x. Unsupported term x)) (skip_body (skipped_at levels)))
       (kept.of_followed (tag_of has_layout (λ term x. Unsupported term x)) (skip_body (skipped_at levels))
-      (tested_byte-kept P kept has_layout (λ term x. Unsupported term x) tag_tells) (λ tag front w. body-kept (skipped_at levels) (skipped_at-kept levels) tag))
+      (tested_byte-kept P kept has_layout (λ term x. Unsupported term x) tag_told) (λ tag front w. body-kept (skipped_at levels) (skipped_at-kept levels) tag))
 
   pub skipped-kept : P (Unit {0}) skipped
   skipped-kept = skipped_at-kept 256

@@ -13,7 +13,7 @@ use Rattle.etf_model.specs.Sharp.{HasBytes}
 use Rattle.etf_model.specs.Moved.{moved}
 use Rattle.etf_model.specs.Layout.{is_known, begins_tail, signed_32, signed, limit, characters, is_name, may_use, integers}
 use Rattle.etf_model.specs.Spelling.{number_after, number, sized, may_have_parts, count_after, count, magnitude_after, big_integer, name, binary, bit_binary, string, tuple_of, no_tail, list_of, pairs_after, map_format, body, tag_of, term_with, part_at, tail_at, outermost, spelling, body_of}
-use Rattle.etf_model.specs.Kept.{TellsOffset, IsKept, changed-kept, either-kept, times-kept, byte_some, followed_some, tested_some}
+use Rattle.etf_model.specs.Kept.{TellsOffset, IsKept, IsKeptWhere, changed-kept, either-kept, times-kept, byte_some, followed_some, tested_some}
 
 -- ---- the faults tell offsets
 
@@ -88,11 +88,12 @@ term_some test fault (suc levels) =
     followed_some (tag_of test fault) (body (term_with is_known (λ term x. Unsupported term x) levels) (term_with begins_tail (λ term x. Unsupported term x) levels) levels)
     (tested_some byte test fault byte_some)
 
--- ---- the formats
+pub spelling_some : HasBytes spelling
+spelling_some = followed_some (tag_of (λ x. x == 131) (λ term x. NotVersion term)) (λ x. outermost) (tested_some byte (λ x. x == 131) (λ term x. NotVersion term) byte_some)
 
-module _ (P : (A : Type 0) → Format A → Type 0) (kept : IsKept P) where
-  -- ---- numbers and bytes
+-- ---- numbers and bytes, whatever is known of the faults of tests
 
+module _ {Told : (A : Type 0) → (ℕ → A → EtfFault) → Type 0} (P : (A : Type 0) → Format A → Type 0) (kept : IsKeptWhere Told P) where
   number_after-kept : (n size : ℕ) → P ℕ (number_after n size)
   number_after-kept n zero = kept.of_give n
   number_after-kept n (suc size) =
@@ -104,18 +105,21 @@ module _ (P : (A : Type 0) → Format A → Type 0) (kept : IsKept P) where
   pub bytes-kept : (n : ℕ) → P (List ℕ) (times n byte)
   bytes-kept n = times-kept P kept n byte (λ _. kept.of_byte)
 
-  sized-kept : (size : ℕ) → P (List ℕ) (sized size)
+  pub sized-kept : (size : ℕ) → P (List ℕ) (sized size)
   sized-kept size = kept.of_followed (number size) (λ n. times n byte) (number-kept size) (λ n front w. bytes-kept n)
 
   -- a byte that is to pass a test
-  pub tested_byte-kept : (test : ℕ → Bool) (fault : ℕ → ℕ → EtfFault) → TellsOffset fault → P ℕ (tested byte test fault)
+  pub tested_byte-kept : (test : ℕ → Bool) (fault : ℕ → ℕ → EtfFault) → Told ℕ fault → P ℕ (tested byte test fault)
   tested_byte-kept test fault tells = kept.of_tested byte test fault tells byte_some kept.of_byte
 
+-- ---- the formats
+
+module _ (P : (A : Type 0) → Format A → Type 0) (kept : IsKept P) where
   count_after-kept : (may : Bool) (n size : ℕ) → P ℕ (count_after may n size)
   count_after-kept may n zero = kept.of_give n
   count_after-kept may n (suc size) =
       kept.of_followed (tested byte (λ x. cond may true (x == 0)) (λ term x. Depth term)) (λ x. count_after may (256 * n + x) size)
-      (tested_byte-kept (λ x. cond may true (x == 0)) (λ term x. Depth term) depth_tells)
+      (tested_byte-kept P kept (λ x. cond may true (x == 0)) (λ term x. Depth term) depth_tells)
       (λ x front w. count_after-kept may (256 * n + x) size)
 
   pub count-kept : (levels size : ℕ) → P ℕ (count levels size)
@@ -125,7 +129,7 @@ module _ (P : (A : Type 0) → Format A → Type 0) (kept : IsKept P) where
   magnitude_after-kept most weight m zero = kept.of_give m
   magnitude_after-kept most weight m (suc size) =
       kept.of_followed (tested byte (λ x. nat_le (m + weight * x) most) (λ term x. IntegerRange term)) (λ x. magnitude_after most (256 * weight) (m + weight * x) size)
-      (tested_byte-kept (λ x. nat_le (m + weight * x) most) (λ term x. IntegerRange term) range_tells)
+      (tested_byte-kept P kept (λ x. nat_le (m + weight * x) most) (λ term x. IntegerRange term) range_tells)
       (λ x front w. magnitude_after-kept most (256 * weight) (m + weight * x) size)
 
   -- ---- terms without parts
@@ -135,7 +139,7 @@ module _ (P : (A : Type 0) → Format A → Type 0) (kept : IsKept P) where
 
   big_integer-kept : (size : ℕ) → P TermValue (big_integer size)
   big_integer-kept size =
-      kept.of_followed (number size) _ (number-kept size)
+      kept.of_followed (number size) _ (number-kept P kept size)
       (λ n front w. kept.of_followed byte _ kept.of_byte
       (λ sign front w. magnitude-kept (limit sign) 1 0 n (λ m. integer (signed sign m))))
 
@@ -143,22 +147,22 @@ module _ (P : (A : Type 0) → Format A → Type 0) (kept : IsKept P) where
   name-kept utf8 size =
       changed-kept P kept (tested (sized (suc size)) (is_name utf8) (λ term bytes. BadAtom term)) (λ bytes. atom (characters utf8 bytes))
       (kept.of_tested (sized (suc size)) (is_name utf8) (λ term bytes. BadAtom term) atom_tells
-      (followed_some (number (suc size)) (λ n. times n byte) (number_some size)) (sized-kept (suc size)))
+      (followed_some (number (suc size)) (λ n. times n byte) (number_some size)) (sized-kept P kept (suc size)))
 
   binary-kept : P TermValue binary
-  binary-kept = changed-kept P kept (sized 4) (λ bytes. bits (bits_of bytes 8)) (sized-kept 4)
+  binary-kept = changed-kept P kept (sized 4) (λ bytes. bits (bits_of bytes 8)) (sized-kept P kept 4)
 
   bit_binary-kept : P TermValue bit_binary
   bit_binary-kept =
-      kept.of_followed (number 4) _ (number-kept 4)
+      kept.of_followed (number 4) _ (number-kept P kept 4)
       (λ n front w. kept.of_followed (tested byte (may_use n) (λ term x. BadBits term)) (λ used. changed (times n byte) (λ bytes. bits (bits_of bytes used)))
-      (tested_byte-kept (may_use n) (λ term x. BadBits term) bits_tells)
-      (λ used front w. changed-kept P kept (times n byte) (λ bytes. bits (bits_of bytes used)) (bytes-kept n)))
+      (tested_byte-kept P kept (may_use n) (λ term x. BadBits term) bits_tells)
+      (λ used front w. changed-kept P kept (times n byte) (λ bytes. bits (bits_of bytes used)) (bytes-kept P kept n)))
 
   string-kept : (levels : ℕ) → P TermValue (string levels)
   string-kept levels =
       kept.of_followed (count levels 2) (λ n. changed (times n byte) integers) (count-kept levels 2)
-      (λ n front w. changed-kept P kept (times n byte) integers (bytes-kept n))
+      (λ n front w. changed-kept P kept (times n byte) integers (bytes-kept P kept n))
 
   -- ---- terms with parts
 
@@ -176,7 +180,7 @@ module _ (P : (A : Type 0) → Format A → Type 0) (kept : IsKept P) where
     no_tail-kept =
         kept.of_framed (changed (tested byte (λ x. x == 106) (λ term x. Unsupported term x)) (λ x. nil))
         (changed-kept P kept (tested byte (λ x. x == 106) (λ term x. Unsupported term x)) (λ x. nil)
-        (tested_byte-kept (λ x. x == 106) (λ term x. Unsupported term x) tag_tells))
+        (tested_byte-kept P kept (λ x. x == 106) (λ term x. Unsupported term x) tag_tells))
 
     list_of-kept : P TermValue (list_of part tail levels)
     list_of-kept =
@@ -204,7 +208,7 @@ module _ (P : (A : Type 0) → Format A → Type 0) (kept : IsKept P) where
     body-kept : (tag : ℕ) → P TermValue (body part tail levels tag)
     body-kept tag =
         either-kept P kept (tag == 97) _ _ (changed-kept P kept byte (λ x. integer (pos x)) kept.of_byte)
-        (λ _. either-kept P kept (tag == 98) _ _ (changed-kept P kept (number 4) (λ n. integer (signed_32 n)) (number-kept 4))
+        (λ _. either-kept P kept (tag == 98) _ _ (changed-kept P kept (number 4) (λ n. integer (signed_32 n)) (number-kept P kept 4))
         (λ _. either-kept P kept (tag == 110) _ _ (big_integer-kept 1)
         (λ _. either-kept P kept (tag == 111) _ _ (big_integer-kept 4)
         (λ _. either-kept P kept (tag == 100) _ _ (name-kept false 1)
@@ -224,7 +228,7 @@ module _ (P : (A : Type 0) → Format A → Type 0) (kept : IsKept P) where
   term_with-kept test fault tells (suc levels) e =
       kept.of_framed (followed (tag_of test fault) (body (term_with is_known (λ term x. Unsupported term x) levels) (term_with begins_tail (λ term x. Unsupported term x) levels) levels))
       (kept.of_followed (tag_of test fault) (body (term_with is_known (λ term x. Unsupported term x) levels) (term_with begins_tail (λ term x. Unsupported term x) levels) levels)
-      (tested_byte-kept test fault tells)
+      (tested_byte-kept P kept test fault tells)
       (λ tag front w. body-kept (term_with is_known (λ term x. Unsupported term x) levels) (term_with begins_tail (λ term x. Unsupported term x) levels)
       (term_some is_known (λ term x. Unsupported term x) levels) levels
       (term_with-kept is_known (λ term x. Unsupported term x) tag_tells levels)
@@ -243,4 +247,4 @@ module _ (P : (A : Type 0) → Format A → Type 0) (kept : IsKept P) where
   pub spelling-kept : P TermValue spelling
   spelling-kept =
       kept.of_followed (tag_of (λ x. x == 131) (λ term x. NotVersion term)) (λ x. outermost)
-      (tested_byte-kept (λ x. x == 131) (λ term x. NotVersion term) version_tells) (λ x front w. outermost-kept)
+      (tested_byte-kept P kept (λ x. x == 131) (λ term x. NotVersion term) version_tells) (λ x front w. outermost-kept)

@@ -20,6 +20,20 @@ pub fn a_stream_gives_one_list_of_terms()
         → StreamGives start bytes ts r → StreamGives start bytes us q → (ts ≡ us) × (r ≡ q) }
 {}
 
+/// Each stream gives some list of terms, and an answer behind them.
+pub fn each_stream_gives_some_terms_and_an_answer()
+    ensures { (start : ℕ) (bytes : List ℕ) → (ts : List TermValue) × (answer : Result Fed EtfFault)
+        × StreamGives start bytes ts answer }
+{}
+
+/// The terms that a feed has given are the first of its stream, whatever else it answered, as that it waits for more
+/// bytes, and whatever follows those that were fed.
+pub fn the_terms_of_a_feed_are_the_first_of_its_stream()
+    ensures { (calls : List Call) (rest : List ℕ) (ts : List TermValue) (answer : Result Fed EtfFault)
+        → IsHistory empty_feed calls → StreamGives 0 (fed_bytes calls ++ rest) ts answer
+        → (more : List TermValue) × (ts ≡ answered_terms calls ++ more) }
+{}
+
 /// The terms of a stream do not depend on how it was cut: where a feed came to its last answer, its terms and this answer
 /// are what the stream gives. What was not fed by then may be any bytes, but none once the end of input was said. So two
 /// feeds of one stream have the same terms and the same last answer.

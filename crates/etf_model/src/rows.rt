@@ -44,6 +44,8 @@ pub fn atoms_are_spelled()
     ensures bytes_of_latin { Spells (atom (0xc3 ∷ 0xa4 ∷ [])) (0x83 ∷ 0x73 ∷ 0x02 ∷ 0xc3 ∷ 0xa4 ∷ []) }
     ensures empty { Spells (atom []) (0x83 ∷ 0x77 ∷ 0x00 ∷ []) }
     ensures longest { Spells (atom (replicate 255 0x61)) (0x83 ∷ 0x64 ∷ 0x00 ∷ 0xff ∷ replicate 255 0x61) }
+    ensures longest_utf8 { Spells (atom (replicate 255 0xe4))
+        (0x83 ∷ 0x76 ∷ 0x01 ∷ 0xfe ∷ concat (replicate 255 (0xc3 ∷ 0xa4 ∷ []))) }
 {}
 
 /// Tuples and lists. A list of bytes may be spelled by its bytes; an improper list has its tail in place of 106.
@@ -107,6 +109,7 @@ pub fn values_may_break_a_rule()
     ensures seventeenth_byte { IsBreak 0 (0x83 ∷ 0x6e ∷ 0x14 ∷ 0x00 ∷ (replicate 16 0x00 ++ 0x01 ∷ [])) (IntegerRange 1) }
     ensures no_utf8 { IsBreak 0 (0x83 ∷ 0x77 ∷ 0x01 ∷ 0xff ∷ []) (BadAtom 1) }
     ensures long_atom { IsBreak 0 (0x83 ∷ 0x64 ∷ 0x01 ∷ 0x00 ∷ replicate 256 0x61) (BadAtom 1) }
+    ensures long_utf8 { IsBreak 0 (0x83 ∷ 0x76 ∷ 0x02 ∷ 0x00 ∷ concat (replicate 256 (0xc3 ∷ 0xa4 ∷ []))) (BadAtom 1) }
     ensures bits_of_nothing { IsBreak 0 (0x83 ∷ 0x4d ∷ 0x00 ∷ 0x00 ∷ 0x00 ∷ 0x00 ∷ 0x03 ∷ []) (BadBits 1) }
     ensures no_used_bits { IsBreak 0 (0x83 ∷ 0x4d ∷ 0x00 ∷ 0x00 ∷ 0x00 ∷ 0x01 ∷ 0x00 ∷ []) (BadBits 1) }
     ensures nine_bits { IsBreak 0 (0x83 ∷ 0x4d ∷ 0x00 ∷ 0x00 ∷ 0x00 ∷ 0x01 ∷ 0x09 ∷ []) (BadBits 1) }

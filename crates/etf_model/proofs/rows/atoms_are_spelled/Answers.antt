@@ -1,5 +1,6 @@
 use Rattle.std.proofs.Common.{[], ◌∷◌, replicate, refl}
 use lib.Utf8.{encode}
+use Rattle.std.specs.List.{concat}
 use Rattle.std.specs.Str.{is_utf8, chars}
 use Rattle.dets_term.specs.TermValue.{atom}
 use Rattle.dets_term.specs.Written.{word}
@@ -50,3 +51,8 @@ pub returns-clause-longest : goal.returns-clause-longest
 unfolding encode is_utf8 chars
 returns-clause-longest c =
     spelled (atom (replicate 255 0x61)) (0x83 ∷ 0x64 ∷ 0x00 ∷ 0xff ∷ replicate 255 0x61) refl
+
+pub returns-clause-longest_utf8 : goal.returns-clause-longest_utf8
+unfolding encode is_utf8 chars
+returns-clause-longest_utf8 c =
+    spelled (atom (replicate 255 0xe4)) (0x83 ∷ 0x76 ∷ 0x01 ∷ 0xfe ∷ concat (replicate 255 (0xc3 ∷ 0xa4 ∷ []))) refl

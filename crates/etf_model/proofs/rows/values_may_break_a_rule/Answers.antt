@@ -1,5 +1,6 @@
 use Rattle.std.proofs.Common.{[], ◌∷◌, ◌++◌, replicate, refl}
 use lib.Utf8.{encode}
+use Rattle.std.specs.List.{concat}
 use Rattle.std.specs.Str.{is_utf8, chars}
 use Rattle.etf_model.specs.declared.fault.EtfFault.TheVariants.{IntegerRange, BadAtom, BadBits, RepeatedKey}
 use Rattle.etf_model.proofs.ByReading.{broken}
@@ -29,6 +30,11 @@ pub returns-clause-long_atom : goal.returns-clause-long_atom
 unfolding encode is_utf8 chars
 returns-clause-long_atom c =
     broken (0x83 ∷ 0x64 ∷ 0x01 ∷ 0x00 ∷ replicate 256 0x61) (BadAtom 1) refl refl (λ e. cc)
+
+pub returns-clause-long_utf8 : goal.returns-clause-long_utf8
+unfolding encode is_utf8 chars
+returns-clause-long_utf8 c =
+    broken (0x83 ∷ 0x76 ∷ 0x02 ∷ 0x00 ∷ concat (replicate 256 (0xc3 ∷ 0xa4 ∷ []))) (BadAtom 1) refl refl (λ e. cc)
 
 pub returns-clause-bits_of_nothing : goal.returns-clause-bits_of_nothing
 unfolding encode is_utf8 chars

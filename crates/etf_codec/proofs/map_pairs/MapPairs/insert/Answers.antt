@@ -5,9 +5,9 @@ use Rattle.dets_term.specs.Pairs.{keys, placed}
 use Rattle.etf_codec.proofs.SortedPairs.{insert_entry-placed}
 use Rattle.etf_codec.proofs.map_pairs.MapPairs.insert.Goals as goal
 
-pub returns-in-Ok-clause-ok : goal.returns-in-Ok-clause-ok
-returns-in-Ok-clause-ok c =
-    c.in-Ok.ensures.entries
+pub returns-clause-ok : goal.returns-clause-ok
+returns-clause-ok c =
+    c.in_ok-insert.ensures.entries
     ∙ insert_entry-placed c.args.key c.args.value c.self.inside.sorted.entries
     (subst (λ es. list_any (is_same c.args.key) (keys es) ≡ false) (sym c.self.view_is) c.requires)
     ∙ ap (placed (c.args.key, c.args.value)) c.self.view_is
