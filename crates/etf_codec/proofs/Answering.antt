@@ -2,7 +2,7 @@
 use Rattle.std.proofs.Common.{◌≡◌, ℕ, ◌+◌, List, [], ◌∷◌, ◌++◌, length, take, Ok, Err, refl, ap, ◌∙◌, sym, subst, length-append, arith}
 use Rattle.etf_model.specs.declared.fault.EtfFault.{EtfFault}
 use Rattle.etf_model.specs.declared.fault.EtfFault.TheVariants.{Short, Memory}
-use Rattle.etf_model.specs.Format.{Place, Format}
+use Rattle.etf_model.specs.Format.{Position, Format}
 use Rattle.etf_model.specs.Exact.{IsExact}
 use Rattle.etf_model.specs.Answers.{IsFront, Answers}
 
@@ -12,7 +12,7 @@ take_front (x ∷ front) rest = ap (λ l. x ∷ l) (take_front front rest)
 
 module _ {A : Type 0} (F : Format A) (f : IsExact F) where
   -- what is read from the front of some bytes that begin at an offset
-  pub front_read : (start : ℕ) (before behind : Place) (x : A) (count : ℕ) → before.offset ≡ start → behind.offset ≡ start + count → F.read start before ≡ Ok (x, behind)
+  pub front_read : (start : ℕ) (before behind : Position) (x : A) (count : ℕ) → before.offset ≡ start → behind.offset ≡ start + count → F.read start before ≡ Ok (x, behind)
       → IsFront F before.left x count
   front_read start before behind x count begins same e =
       let between = f.read_whole start before x behind e in

@@ -4,15 +4,15 @@ use Rattle.std.proofs.Math.Nat.{pow-succ'}
 use Rattle.std.proofs.lemmas.List.{take_rest, drop-drop}
 use Rattle.etf_model.specs.declared.fault.EtfFault.{EtfFault}
 use Rattle.etf_model.specs.declared.fault.EtfFault.TheVariants.{Short}
-use Rattle.etf_model.specs.Format.{Place, Reading, byte, times, go_on, judged}
+use Rattle.etf_model.specs.Format.{Position, Reading, byte, times, go_on, judged}
 use Rattle.etf_model.specs.Spelling.{number_after}
-use Rattle.etf_codec.specs.Reads.{place_at}
+use Rattle.etf_codec.specs.Reads.{position_at}
 
 -- to go on behind a value, and behind a fault
-pub go_on_ok : {A B : Type 0} (r : Reading A) (x : A) (behind : Place) (next : A → Place → Reading B) → r ≡ Ok (x, behind) → go_on r next ≡ next x behind
+pub go_on_ok : {A B : Type 0} (r : Reading A) (x : A) (behind : Position) (next : A → Position → Reading B) → r ≡ Ok (x, behind) → go_on r next ≡ next x behind
 go_on_ok r x behind next e = rw e
 
-pub go_on_err : {A B : Type 0} (r : Reading A) (next : A → Place → Reading B) (fault : EtfFault) → r ≡ Err fault → go_on r next ≡ Err fault
+pub go_on_err : {A B : Type 0} (r : Reading A) (next : A → Position → Reading B) (fault : EtfFault) → r ≡ Err fault → go_on r next ≡ Err fault
 go_on_err r next fault e = rw e
 
 -- as many bytes as there are
@@ -39,36 +39,36 @@ pow_256_le (suc (suc zero)) h = omega arith
 pow_256_le (suc (suc (suc zero))) h = omega arith
 pow_256_le (suc (suc (suc (suc n)))) h = absurd (omega arith)
 
--- some of the bytes behind a place
-pub times_byte_at : (start n at : ℕ) (term : ℕ) (bytes : List ℕ) (place : Place) → place_at start bytes at ≡ place → n ≤ length (take (length bytes - at) (drop at bytes))
-    → (times n byte).read term place ≡ Ok (take n (take (length bytes - at) (drop at bytes)), place_at start bytes (at + n))
-times_byte_at start n at term bytes place e h =
+-- some of the bytes behind a position
+pub times_byte_at : (start n at : ℕ) (term : ℕ) (bytes : List ℕ) (position : Position) → position_at start bytes at ≡ position → n ≤ length (take (length bytes - at) (drop at bytes))
+    → (times n byte).read term position ≡ Ok (take n (take (length bytes - at) (drop at bytes)), position_at start bytes (at + n))
+times_byte_at start n at term bytes position e h =
     let behind : start + at + n ≡ start + (at + n) = omega arith in
     rw (← e, take_rest, ← drop-drop n at bytes, ← behind) (times_byte n term (start + at) (drop at bytes) (rw (← take_rest bytes at) h))
 
-pub times_byte_at_end : (start n at : ℕ) (term : ℕ) (bytes : List ℕ) (place : Place) → place_at start bytes at ≡ place → length (take (length bytes - at) (drop at bytes)) < n
-    → (times n byte).read term place ≡ Err Short
-times_byte_at_end start n at term bytes place e h = rw (← e) (times_byte_short n term (start + at) (drop at bytes) (rw (← take_rest bytes at) h))
+pub times_byte_at_end : (start n at : ℕ) (term : ℕ) (bytes : List ℕ) (position : Position) → position_at start bytes at ≡ position → length (take (length bytes - at) (drop at bytes)) < n
+    → (times n byte).read term position ≡ Err Short
+times_byte_at_end start n at term bytes position e h = rw (← e) (times_byte_short n term (start + at) (drop at bytes) (rw (← take_rest bytes at) h))
 
 -- one more byte of a number
-pub number_more : (value n : ℕ) (term : ℕ) (place : Place) (x : ℕ) (behind : Place) → 0 < n → byte.read term place ≡ Ok (x, behind)
-    → (number_after value n).read term place ≡ (number_after (256 * value + x) (n - 1)).read term behind
-number_more value zero term place x behind h e = absurd (omega arith)
-number_more value (suc n) term place x behind h e = go_on_ok _ _ _ _ e ∙ ap (λ m. (number_after (256 * value + x) m).read term behind) (omega arith)
+pub number_more : (value n : ℕ) (term : ℕ) (position : Position) (x : ℕ) (behind : Position) → 0 < n → byte.read term position ≡ Ok (x, behind)
+    → (number_after value n).read term position ≡ (number_after (256 * value + x) (n - 1)).read term behind
+number_more value zero term position x behind h e = absurd (omega arith)
+number_more value (suc n) term position x behind h e = go_on_ok _ _ _ _ e ∙ ap (λ m. (number_after (256 * value + x) m).read term behind) (omega arith)
 
-pub number_fails : (value n : ℕ) (term : ℕ) (place : Place) (fault : EtfFault) → 0 < n → byte.read term place ≡ Err fault
-    → (number_after value n).read term place ≡ Err fault
-number_fails value zero term place fault h e = absurd (omega arith)
-number_fails value (suc n) term place fault h e = go_on_err _ _ _ e
+pub number_fails : (value n : ℕ) (term : ℕ) (position : Position) (fault : EtfFault) → 0 < n → byte.read term position ≡ Err fault
+    → (number_after value n).read term position ≡ Err fault
+number_fails value zero term position fault h e = absurd (omega arith)
+number_fails value (suc n) term position fault h e = go_on_err _ _ _ e
 
 pub pow_256_more : (n : ℕ) → 256 ^ (n + 1) ≡ 256 * 256 ^ n
 pow_256_more n = rw add-one (pow-succ' 256 n)
 
 -- a value that passes its test, and one that does not
-pub test_passes : {A : Type 0} (r : Reading A) (x : A) (behind : Place) (test : A → Bool) (fault : A → EtfFault) → r ≡ Ok (x, behind) → test x ≡ true
-    → go_on r (λ y place. judged (test y) (fault y) y place) ≡ Ok (x, behind)
+pub test_passes : {A : Type 0} (r : Reading A) (x : A) (behind : Position) (test : A → Bool) (fault : A → EtfFault) → r ≡ Ok (x, behind) → test x ≡ true
+    → go_on r (λ y position. judged (test y) (fault y) y position) ≡ Ok (x, behind)
 test_passes r x behind test fault e p = go_on_ok r x behind _ e ∙ ap (λ b. cond b (Ok (x, behind)) (Err (fault x))) p
 
-pub test_fails : {A : Type 0} (r : Reading A) (x : A) (behind : Place) (test : A → Bool) (fault : A → EtfFault) → r ≡ Ok (x, behind) → test x ≡ false
-    → go_on r (λ y place. judged (test y) (fault y) y place) ≡ Err (fault x)
+pub test_fails : {A : Type 0} (r : Reading A) (x : A) (behind : Position) (test : A → Bool) (fault : A → EtfFault) → r ≡ Ok (x, behind) → test x ≡ false
+    → go_on r (λ y position. judged (test y) (fault y) y position) ≡ Err (fault x)
 test_fails r x behind test fault e p = go_on_ok r x behind _ e ∙ ap (λ b. cond b (Ok (x, behind)) (Err (fault x))) p

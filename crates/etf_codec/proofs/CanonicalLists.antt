@@ -7,6 +7,7 @@ use Rattle.dets_term.specs.TermValue.{TermValue, integer, atom, tuple, mapping, 
 use Rattle.dets_term.specs.IsTerm.{IsTerm, IsBounded}
 use Rattle.dets_term.specs.BitString.{bits_of, MayUse}
 use Rattle.dets_term.specs.Parts.{deepest, deepest_of_pairs, elements-chain, elements-improper, parts_depth-chain, parts_depth-map_of, parts_depth-improper}
+use Rattle.etf_model.specs.declared.tags.TheConstants.{NIL, STRING, LIST}
 use Rattle.etf_model.specs.Canonical.{canonical, canonical_each, canonical_end, head, list_spelling, is_proper, are_bytes, byte_value}
 use Rattle.etf_model.specs.CanonicalWholes.{canonical_each-not_list, canonical_end-not_list, length-canonical_each, concat-canonical_each}
 use Rattle.etf_codec.proofs.Packing.{length-bytes-le}
@@ -36,29 +37,29 @@ canonical-cons (t ∷ ts) tail h = refl
 
 -- ---- by the list of elements
 
-pub canonical-string : (ts : List TermValue) → 0 < length ts → are_bytes ts ≡ true → canonical (chain ts nil) ≡ head 107 2 (length ts) ++ map byte_value ts
+pub canonical-string : (ts : List TermValue) → 0 < length ts → are_bytes ts ≡ true → canonical (chain ts nil) ≡ head STRING 2 (length ts) ++ map byte_value ts
 canonical-string ts h bytes =
     canonical-cons ts nil h
     ∙ cond-true _ _ _ (and_from _ _ (is_proper-chain ts nil) (ap are_bytes (elements-chain ts) ∙ bytes))
-    ∙ ap (λ us. head 107 2 (length us) ++ map byte_value us) (elements-chain ts)
+    ∙ ap (λ us. head STRING 2 (length us) ++ map byte_value us) (elements-chain ts)
 
 -- by the tag of lists
 listed : (ts : List TermValue) (tail : TermValue) → 0 < length ts → canonical_each tail ≡ [] → (is_proper (chain ts tail) && are_bytes (elements (chain ts tail))) ≡ false
-    → canonical (chain ts tail) ≡ head 108 4 (length ts) ++ (flat_map canonical ts ++ canonical_end tail)
+    → canonical (chain ts tail) ≡ head LIST 4 (length ts) ++ (flat_map canonical ts ++ canonical_end tail)
 listed ts tail h none other =
     canonical-cons ts tail h
     ∙ cond-false _ _ _ other
-    ∙ ap (λ n. head 108 4 n ++ (concat (canonical_each (chain ts tail)) ++ canonical_end (chain ts tail))) (length-canonical_each ts tail none)
-    ∙ ap (λ bytes. head 108 4 (length ts) ++ (bytes ++ canonical_end (chain ts tail))) (concat-canonical_each ts tail none)
-    ∙ ap (λ bytes. head 108 4 (length ts) ++ (flat_map canonical ts ++ bytes)) (canonical_end-chain ts tail)
+    ∙ ap (λ n. head LIST 4 n ++ (concat (canonical_each (chain ts tail)) ++ canonical_end (chain ts tail))) (length-canonical_each ts tail none)
+    ∙ ap (λ bytes. head LIST 4 (length ts) ++ (bytes ++ canonical_end (chain ts tail))) (concat-canonical_each ts tail none)
+    ∙ ap (λ bytes. head LIST 4 (length ts) ++ (flat_map canonical ts ++ bytes)) (canonical_end-chain ts tail)
 
-pub canonical-list : (ts : List TermValue) → 0 < length ts → are_bytes ts ≡ false → canonical (chain ts nil) ≡ head 108 4 (length ts) ++ (flat_map canonical ts ++ 106 ∷ [])
+pub canonical-list : (ts : List TermValue) → 0 < length ts → are_bytes ts ≡ false → canonical (chain ts nil) ≡ head LIST 4 (length ts) ++ (flat_map canonical ts ++ NIL ∷ [])
 canonical-list ts h other = listed ts nil h refl (and_right _ _ (ap are_bytes (elements-chain ts) ∙ other))
 
-pub canonical-improper : (ts : List TermValue) (tail : TermValue) → 0 < length ts → is_list tail ≡ false → canonical (chain ts tail) ≡ head 108 4 (length ts) ++ (flat_map canonical ts ++ canonical tail)
+pub canonical-improper : (ts : List TermValue) (tail : TermValue) → 0 < length ts → is_list tail ≡ false → canonical (chain ts tail) ≡ head LIST 4 (length ts) ++ (flat_map canonical ts ++ canonical tail)
 canonical-improper ts tail h e =
     listed ts tail h (canonical_each-not_list tail e) (and_left _ _ (is_proper-chain ts tail ∙ is_proper-not_list tail e))
-    ∙ ap (λ bytes. head 108 4 (length ts) ++ (flat_map canonical ts ++ bytes)) (canonical_end-not_list tail e)
+    ∙ ap (λ bytes. head LIST 4 (length ts) ++ (flat_map canonical ts ++ bytes)) (canonical_end-not_list tail e)
 
 -- ---- how many parts there are
 

@@ -37,7 +37,7 @@ name-fits name utf8 h =
 
 -- ---- lists
 
--- there is an element at each place below the length
+-- there is an element at each index below the length
 pub element_within : {X : Type 0} (xs : List X) (n : ℕ) → n < length xs → slice_get xs n ≡ None → ⊥
 element_within [] n h e = omega arith
 element_within (x ∷ xs) zero h e = cc
@@ -93,7 +93,7 @@ all_bytes-at [] n t all e = cc
 all_bytes-at (u ∷ ts) zero t all e = let same : u ≡ t = cc in ap is_byte (sym same) ∙ (and_parts _ _ all).0
 all_bytes-at (u ∷ ts) (suc n) t all e = all_bytes-at ts n t (and_parts _ _ all).1 e
 
--- the code's look at the element at a place
+-- the code's look at the element at an index
 pub record Looked (ts : List TermValue) (n : ℕ) (byte : Option ℕ) : Type 0 where
   pub term : TermValue
   pub here : slice_get ts n ≡ Some term

@@ -3,7 +3,7 @@ use Rattle.std.proofs.Common.{◌≡◌, List, ℕ, zero, suc, ◌+◌, ◌*◌,
 use Rattle.std.proofs.lemmas.Bool.Decides.{nat_tests}
 use Rattle.etf_model.specs.declared.fault.EtfFault.{EtfFault}
 use Rattle.etf_model.specs.declared.fault.EtfFault.TheVariants.{Depth}
-use Rattle.etf_model.specs.Format.{Place, byte, judged}
+use Rattle.etf_model.specs.Format.{Position, byte, judged}
 use Rattle.etf_model.specs.Spelling.{number, number_after, count, count_after}
 use Rattle.etf_codec.proofs.Bytes.{go_on_ok, go_on_err}
 
@@ -14,36 +14,36 @@ count_after_true value zero term offset bytes = refl
 count_after_true value (suc n) term offset [] = refl
 count_after_true value (suc n) term offset (x ∷ bytes) = count_after_true (256 * value + x) n term (offset + 1) bytes
 
-pub count_number : (levels size : ℕ) (term : ℕ) (place : Place) → 0 < levels → (count levels size).read term place ≡ (number size).read term place
-count_number zero size term place h = absurd (omega arith)
-count_number (suc levels) size term place h = count_after_true 0 size term place.offset place.left
+pub count_number : (levels size : ℕ) (term : ℕ) (position : Position) → 0 < levels → (count levels size).read term position ≡ (number size).read term position
+count_number zero size term position h = absurd (omega arith)
+count_number (suc levels) size term position h = count_after_true 0 size term position.offset position.left
 
 -- what follows of no level: no byte but 0
-pub count_none : (levels size : ℕ) (term : ℕ) (place : Place) → levels ≤ 0 → (count levels size).read term place ≡ (count_after false 0 size).read term place
-count_none zero size term place h = refl
-count_none (suc levels) size term place h = absurd (omega arith)
+pub count_none : (levels size : ℕ) (term : ℕ) (position : Position) → levels ≤ 0 → (count levels size).read term position ≡ (count_after false 0 size).read term position
+count_none zero size term position h = refl
+count_none (suc levels) size term position h = absurd (omega arith)
 
 -- where there may be none: a byte that is 0
-pub count_more : (n : ℕ) (term : ℕ) (place : Place) (x : ℕ) (behind : Place) → 0 < n → byte.read term place ≡ Ok (x, behind) → x ≡ 0
-    → (count_after false 0 n).read term place ≡ (count_after false 0 (n - 1)).read term behind
-count_more zero term place x behind h e z = absurd (omega arith)
-count_more (suc n) term place x behind h e z =
+pub count_more : (n : ℕ) (term : ℕ) (position : Position) (x : ℕ) (behind : Position) → 0 < n → byte.read term position ≡ Ok (x, behind) → x ≡ 0
+    → (count_after false 0 n).read term position ≡ (count_after false 0 (n - 1)).read term behind
+count_more zero term position x behind h e z = absurd (omega arith)
+count_more (suc n) term position x behind h e z =
     let passes : judged (cond false true (x == 0)) (Depth term) x behind ≡ Ok (x, behind) = rw z in
     go_on_ok _ _ _ _ (go_on_ok _ _ _ _ e ∙ passes)
     ∙ ap (λ y. (count_after false (256 * 0 + y) n).read term behind) z
     ∙ ap (λ k. (count_after false 0 k).read term behind) (omega arith)
 
 -- a byte that is not
-pub count_deep : (n : ℕ) (term : ℕ) (place : Place) (x : ℕ) (behind : Place) → 0 < n → byte.read term place ≡ Ok (x, behind) → x ≢ 0
-    → (count_after false 0 n).read term place ≡ Err (Depth term)
-count_deep zero term place x behind h e z = absurd (omega arith)
-count_deep (suc n) term place x behind h e z =
+pub count_deep : (n : ℕ) (term : ℕ) (position : Position) (x : ℕ) (behind : Position) → 0 < n → byte.read term position ≡ Ok (x, behind) → x ≢ 0
+    → (count_after false 0 n).read term position ≡ Err (Depth term)
+count_deep zero term position x behind h e z = absurd (omega arith)
+count_deep (suc n) term position x behind h e z =
     let fails : (x == 0) ≡ false = grind (arith, nat_tests) in
     let byte_fails : judged (cond false true (x == 0)) (Depth term) x behind ≡ Err (Depth term) = rw fails in
     go_on_err _ _ _ (go_on_ok _ _ _ _ e ∙ byte_fails)
 
 -- no byte more
-pub count_fails : (n : ℕ) (term : ℕ) (place : Place) (fault : EtfFault) → 0 < n → byte.read term place ≡ Err fault
-    → (count_after false 0 n).read term place ≡ Err fault
-count_fails zero term place fault h e = absurd (omega arith)
-count_fails (suc n) term place fault h e = go_on_err _ _ _ (go_on_err _ _ _ e)
+pub count_fails : (n : ℕ) (term : ℕ) (position : Position) (fault : EtfFault) → 0 < n → byte.read term position ≡ Err fault
+    → (count_after false 0 n).read term position ≡ Err fault
+count_fails zero term position fault h e = absurd (omega arith)
+count_fails (suc n) term position fault h e = go_on_err _ _ _ (go_on_err _ _ _ e)

@@ -5,7 +5,7 @@ use Rattle.dets_term.specs.TermValue.{TermValue}
 use Rattle.etf_model.specs.declared.fault.EtfFault.{EtfFault}
 use Rattle.etf_model.specs.declared.fault.EtfFault.TheVariants.{LongTerm, Memory}
 use Rattle.etf_model.specs.Decoding.{IsDecoding}
-use Rattle.etf_model.specs.Format.{Place}
+use Rattle.etf_model.specs.Format.{Position}
 use Rattle.etf_model.specs.Spelling.{spelling}
 use Rattle.etf_model.specs.SpellingExact.{spelling-exact, spelling_lacks_long}
 use Rattle.etf_codec.specs.declared.term_reader.TermReader.{TermReader}
@@ -13,15 +13,15 @@ use Rattle.etf_codec.specs.TermReader.{IsFresh, reads_next, reads_on}
 use Rattle.etf_codec.proofs.Answering.{front_read, fault_read}
 
 -- a reader that has read nothing reads a spelling
-pub reads_fresh : (reader : TermReader) (place : Place) → IsFresh reader → reads_on reader place ≡ spelling.read place.offset place
-reads_fresh reader place fresh = ap (λ stage. reads_next stage reader.begun.items place) fresh.0
+pub reads_fresh : (reader : TermReader) (position : Position) → IsFresh reader → reads_on reader position ≡ spelling.read position.offset position
+reads_fresh reader position fresh = ap (λ stage. reads_next stage reader.begun.items position) fresh.0
 
-module _ (bytes : List ℕ) (reader : TermReader) (fresh : IsFresh reader) (start : Place) (front : start ≡ record { offset = 0; left = bytes }) where
+module _ (bytes : List ℕ) (reader : TermReader) (fresh : IsFresh reader) (start : Position) (front : start ≡ record { offset = 0; left = bytes }) where
   from_front : reads_on reader start ≡ spelling.read 0 (record { offset = 0; left = bytes })
-  from_front = reads_fresh reader start fresh ∙ ap (λ (p : Place). spelling.read p.offset p) front
+  from_front = reads_fresh reader start fresh ∙ ap (λ (p : Position). spelling.read p.offset p) front
 
   -- a term that was read, and the offset behind it
-  pub decoded : (behind : Place) (t : TermValue) (n : ℕ) → reads_on reader start ≡ Ok (t, behind) → n ≡ behind.offset → IsDecoding bytes (Ok (t, n))
+  pub decoded : (behind : Position) (t : TermValue) (n : ℕ) → reads_on reader start ≡ Ok (t, behind) → n ≡ behind.offset → IsDecoding bytes (Ok (t, n))
   decoded behind t n e count =
       let size : behind.offset ≡ 0 + n = omega arith in
       front_read spelling spelling-exact 0 (record { offset = 0; left = bytes }) behind t n refl size (sym from_front ∙ e)

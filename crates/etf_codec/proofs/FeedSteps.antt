@@ -7,11 +7,11 @@ use Rattle.etf_model.specs.declared.fault.EtfFault.{EtfFault}
 use Rattle.etf_model.specs.declared.fault.EtfFault.TheVariants.{Short, LongTerm, Memory}
 use Rattle.etf_model.specs.declared.fed.Fed.{Fed}
 use Rattle.etf_model.specs.declared.fed.Fed.TheVariants.{Term, Again, End}
-use Rattle.etf_model.specs.Format.{Place}
+use Rattle.etf_model.specs.Format.{Position}
 use Rattle.etf_model.specs.Exact.{Between}
 use Rattle.etf_model.specs.Answers.{IsFront, Answers}
 use Rattle.etf_model.specs.Spelling.{spelling, IsPart}
-use Rattle.etf_model.specs.FeedState.{FeedState, total, longest, front_of, passed, failed}
+use Rattle.etf_model.specs.SpellingFeed.{SpellingFeed, total, longest, front_of, passed, failed}
 use Rattle.etf_model.specs.Next.{Gives, gives_behind, IsNext}
 use Rattle.etf_model.specs.SpellingExact.{spelling-exact, spelling_lacks_long}
 use Rattle.etf_codec.specs.declared.term_reader.TermReader.{TermReader}
@@ -53,10 +53,10 @@ front_parts items read there few =
     sym (take_min longest items) ∙ ap (λ n. take n items) same ∙ take-add read (min (length items) longest - read) items
 
 -- where reading goes on
-abbrev pub behind_read : Inside → Place
+abbrev pub behind_read : Inside → Position
 behind_read a = record { offset = a.offset + a.read; left = take (min (length a.left.items) longest - a.read) (drop a.read a.left.items) }
 
-pub placed : (a : Inside) (before : Place) (read end size : ℕ) (held : List ℕ) → before ≡ record { offset = a.offset + read; left = take (end - read) (drop read held) }
+pub placed : (a : Inside) (before : Position) (read end size : ℕ) (held : List ℕ) → before ≡ record { offset = a.offset + read; left = take (end - read) (drop read held) }
     → read ≡ a.read → end ≡ min size longest → size ≡ length a.left.items → held ≡ a.left.items → before ≡ behind_read a
 placed a before read end size held is r e s h =
     is
@@ -64,9 +64,9 @@ placed a before read end size held is r e s h =
     ∙ ap (λ (n : ℕ). record { offset = a.offset + a.read; left = take (n - a.read) (drop a.read held) }) (e ∙ ap (λ (n : ℕ). min n longest) s)
     ∙ ap (λ (l : List ℕ). record { offset = a.offset + a.read; left = take (min (length a.left.items) longest - a.read) (drop a.read l) }) h
 
-module _ (a : Inside) (order : IsInOrder a) (reader : TermReader) (same : reader ≡ a.reader) (before : Place) (place : before ≡ behind_read a) where
+module _ (a : Inside) (order : IsInOrder a) (reader : TermReader) (same : reader ≡ a.reader) (before : Position) (position : before ≡ behind_read a) where
   read_to : before.offset ≡ a.offset + a.read
-  read_to = ap (λ (p : Place). p.offset) place
+  read_to = ap (λ (p : Position). p.offset) position
 
   reached : (more : List ℕ) → spelling.read a.offset (record { offset = a.offset; left = take a.read a.left.items ++ more })
       ≡ reads_on reader (record { offset = before.offset; left = more })
@@ -76,21 +76,21 @@ module _ (a : Inside) (order : IsInOrder a) (reader : TermReader) (same : reader
       ∙ ap (λ (o : ℕ). reads_on reader (record { offset = o; left = more })) (sym read_to)
 
   -- the front of what is left
-  abbrev front : Place
+  abbrev front : Position
   front = record { offset = a.offset; left = take longest a.left.items }
 
   parts : take longest a.left.items ≡ take a.read a.left.items ++ before.left
-  parts = front_parts a.left.items a.read order.there order.few ∙ ap (λ (p : Place). take a.read a.left.items ++ p.left) (sym place)
+  parts = front_parts a.left.items a.read order.there order.few ∙ ap (λ (p : Position). take a.read a.left.items ++ p.left) (sym position)
 
   -- reading on answers what reading from the front does
   front_reads : spelling.read a.offset front ≡ reads_on reader before
   front_reads = ap (λ (l : List ℕ). spelling.read a.offset (record { offset = a.offset; left = l })) parts ∙ reached before.left
 
   -- a term is read from the front on
-  pub term_between : (t : TermValue) (behind : Place) → reads_on reader before ≡ Ok (t, behind) → Between (spelling.Whole t) front behind
+  pub term_between : (t : TermValue) (behind : Position) → reads_on reader before ≡ Ok (t, behind) → Between (spelling.Whole t) front behind
   term_between t behind e = spelling-exact.read_whole a.offset front t behind (front_reads ∙ e)
 
-  pub term_front : (t : TermValue) (behind : Place) (count : ℕ) → reads_on reader before ≡ Ok (t, behind) → count ≡ behind.offset - a.offset
+  pub term_front : (t : TermValue) (behind : Position) (count : ℕ) → reads_on reader before ≡ Ok (t, behind) → count ≡ behind.offset - a.offset
       → IsFront spelling (take longest a.left.items) t count
   term_front t behind count e counted =
       let between = term_between t behind e in
@@ -106,7 +106,7 @@ module _ (a : Inside) (order : IsInOrder a) (reader : TermReader) (same : reader
   fault_answers fault (inr e) = fault_front fault e
 
   -- where the bytes end the reader keeps what it has come to
-  pub short_order : (new : TermReader) (behind : Place) (now : ℕ) → IsReader new → GoesOn (reads_on reader) (reads_on new) before behind
+  pub short_order : (new : TermReader) (behind : Position) (now : ℕ) → IsReader new → GoesOn (reads_on reader) (reads_on new) before behind
       → now ≡ behind.offset - a.offset → IsInOrder (record a { reader = new; read = now })
   short_order new behind now good on counted =
       let items = a.left.items in
@@ -142,50 +142,50 @@ pub part_left : (items : List ℕ) → length items < longest → IsPart (take l
 part_left items few part = subst IsPart (take_all longest items (omega arith)) part
 
 -- a fault at the byte that breaks a rule
-broken : (old : FeedState) (fault : EtfFault) → fault ≢ Short → fault ≢ Memory → Answers spelling old.offset (front_of old) (Err fault) → Gives old (failed old fault) (Err fault)
+broken : (old : SpellingFeed) (fault : EtfFault) → fault ≢ Short → fault ≢ Memory → Answers spelling old.offset (front_of old) (Err fault) → Gives old (failed old fault) (Err fault)
 broken old Short other some h = absurd (other refl)
 broken old Memory other some h = absurd (some refl)
 broken old (LongTerm at) other some h = absurd ((spelling_lacks_long at).no_break old.offset old.offset h.front h.holds)
 broken old fault other some h = (h, refl)
 
-pub gives_broken : (old new : FeedState) (fault answer : EtfFault) → fault ≢ Short → fault ≢ Memory → Answers spelling old.offset (front_of old) (Err fault)
+pub gives_broken : (old new : SpellingFeed) (fault answer : EtfFault) → fault ≢ Short → fault ≢ Memory → Answers spelling old.offset (front_of old) (Err fault)
     → new ≡ failed old fault → answer ≡ fault → Gives old new (Err answer)
 gives_broken old new fault answer other some h kept same =
     subst (λ f. Gives old new (Err f)) (sym same) (subst (λ s. Gives old s (Err fault)) (sym kept) (broken old fault other some h))
 
-pub gives_long : (old new : FeedState) (start : ℕ) (answer : EtfFault) → start ≡ old.offset → longest ≤ length old.left → IsPart (front_of old)
+pub gives_long : (old new : SpellingFeed) (start : ℕ) (answer : EtfFault) → start ≡ old.offset → longest ≤ length old.left → IsPart (front_of old)
     → new ≡ failed old (LongTerm start) → answer ≡ LongTerm start → Gives old new (Err answer)
 gives_long old new start answer here many part kept same = subst (λ f. Gives old new (Err f)) (sym same) (here, many, part, kept)
 
-pub gives_short : (old new : FeedState) (answer : EtfFault) → old.finished ≡ true → old.left ≢ [] → length old.left < longest → IsPart (front_of old)
+pub gives_short : (old new : SpellingFeed) (answer : EtfFault) → old.finished ≡ true → old.left ≢ [] → length old.left < longest → IsPart (front_of old)
     → new ≡ failed old Short → answer ≡ Short → Gives old new (Err answer)
 gives_short old new answer finished some few part kept same =
     subst (λ f. Gives old new (Err f)) (sym same) (finished, some, few, part_left old.left few part, kept)
 
 -- where no fault came yet
-pub gives_first : (old new : FeedState) (answer : Result Fed EtfFault) → old.fault ≡ None → Gives old new answer → IsNext old new answer
+pub gives_first : (old new : SpellingFeed) (answer : Result Fed EtfFault) → old.fault ≡ None → Gives old new answer → IsNext old new answer
 gives_first old new answer none gives = subst (λ fault. gives_behind fault old new answer) (sym none) gives
 
 -- ---- what stays the same
 
-taken_kept : (s : FeedState) (t : TermValue) (count : ℕ) → IsFront spelling (front_of s) t count → total (passed s count) ≡ total s
+taken_kept : (s : SpellingFeed) (t : TermValue) (count : ℕ) → IsFront spelling (front_of s) t count → total (passed s count) ≡ total s
 taken_kept s t count front = omega (arith, front.fits, length-take longest s.left, length-drop count s.left)
 
-gives_kept : (old new : FeedState) (answer : Result Fed EtfFault) → Gives old new answer → (total new ≡ total old) × (new.finished ≡ old.finished)
+gives_kept : (old new : SpellingFeed) (answer : Result Fed EtfFault) → Gives old new answer → (total new ≡ total old) × (new.finished ≡ old.finished)
 gives_kept old new (Ok (Term t)) g =
-    (ap (λ (s : FeedState). total s) g.2 ∙ taken_kept old t g.0 g.1, ap (λ (s : FeedState). s.finished) g.2)
-gives_kept old new (Ok Again) g = (ap (λ (s : FeedState). total s) g.3, ap (λ (s : FeedState). s.finished) g.3)
-gives_kept old new (Ok End) g = (ap (λ (s : FeedState). total s) g.2, ap (λ (s : FeedState). s.finished) g.2)
-gives_kept old new (Err Short) g = (ap (λ (s : FeedState). total s) g.4, ap (λ (s : FeedState). s.finished) g.4)
-gives_kept old new (Err (LongTerm at)) g = (ap (λ (s : FeedState). total s) g.3, ap (λ (s : FeedState). s.finished) g.3)
-gives_kept old new (Err Memory) g = (ap (λ (s : FeedState). total s) g, ap (λ (s : FeedState). s.finished) g)
-gives_kept old new (Err fault) g = (ap (λ (s : FeedState). total s) g.1, ap (λ (s : FeedState). s.finished) g.1)
+    (ap (λ (s : SpellingFeed). total s) g.2 ∙ taken_kept old t g.0 g.1, ap (λ (s : SpellingFeed). s.finished) g.2)
+gives_kept old new (Ok Again) g = (ap (λ (s : SpellingFeed). total s) g.3, ap (λ (s : SpellingFeed). s.finished) g.3)
+gives_kept old new (Ok End) g = (ap (λ (s : SpellingFeed). total s) g.2, ap (λ (s : SpellingFeed). s.finished) g.2)
+gives_kept old new (Err Short) g = (ap (λ (s : SpellingFeed). total s) g.4, ap (λ (s : SpellingFeed). s.finished) g.4)
+gives_kept old new (Err (LongTerm at)) g = (ap (λ (s : SpellingFeed). total s) g.3, ap (λ (s : SpellingFeed). s.finished) g.3)
+gives_kept old new (Err Memory) g = (ap (λ (s : SpellingFeed). total s) g, ap (λ (s : SpellingFeed). s.finished) g)
+gives_kept old new (Err fault) g = (ap (λ (s : SpellingFeed). total s) g.1, ap (λ (s : SpellingFeed). s.finished) g.1)
 
-behind_kept : (fault : Option EtfFault) (old new : FeedState) (answer : Result Fed EtfFault) → gives_behind fault old new answer
+behind_kept : (fault : Option EtfFault) (old new : SpellingFeed) (answer : Result Fed EtfFault) → gives_behind fault old new answer
     → (total new ≡ total old) × (new.finished ≡ old.finished)
 behind_kept None old new answer g = gives_kept old new answer g
-behind_kept (Some fault) old new answer g = (ap (λ (s : FeedState). total s) g.1, ap (λ (s : FeedState). s.finished) g.1)
+behind_kept (Some fault) old new answer g = (ap (λ (s : SpellingFeed). total s) g.1, ap (λ (s : SpellingFeed). s.finished) g.1)
 
 -- no answer loses a byte, or ends the input
-pub next_kept : (old new : FeedState) (answer : Result Fed EtfFault) → IsNext old new answer → (total new ≡ total old) × (new.finished ≡ old.finished)
+pub next_kept : (old new : SpellingFeed) (answer : Result Fed EtfFault) → IsNext old new answer → (total new ≡ total old) × (new.finished ≡ old.finished)
 next_kept old new answer g = behind_kept old.fault old new answer g

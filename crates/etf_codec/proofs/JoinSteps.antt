@@ -10,7 +10,7 @@ use Rattle.dets_term.specs.Pairs.{keys, placed, map_built}
 use Rattle.dets_term.specs.PairSorts.{ascending_is_by_key}
 use Rattle.dets_term.specs.Parts.{deepest, deepest-push, deepest_of_pairs}
 use Rattle.etf_model.specs.declared.fault.EtfFault.{EtfFault}
-use Rattle.etf_model.specs.Format.{Place}
+use Rattle.etf_model.specs.Format.{Position}
 use Rattle.etf_codec.specs.declared.frame.Begun.{Begun}
 use Rattle.etf_codec.specs.declared.frame.Frame.{Frame}
 use Rattle.etf_codec.specs.declared.frame.Frame.TheVariants.{Element, Item, Tail, Key, Value}
@@ -102,45 +102,45 @@ may_begin_element (Value m qs k) ahead ts = tt
 
 -- ---- reading on
 
-pub element_goes_on : (ahead start at : ℕ) (ts us : List TermValue) (t : TermValue) → 0 < ahead → us ≡ ts ++ t ∷ [] → (begun : List Begun) (place : Place)
-    → resume (record { start = start; frame = Element ahead ts } ∷ begun) at t place ≡ reading_at (record { start = start; frame = Element (ahead - 1) us } ∷ begun) place
-element_goes_on zero start at ts us t h e begun place = absurd (omega arith)
-element_goes_on (suc n) start at ts us t h e begun place =
-    element_more n start at ts t begun place
-    ∙ ap (λ m. reading_at (record { start = start; frame = Element m (ts ++ t ∷ []) } ∷ begun) place) (omega arith)
-    ∙ ap (λ vs. reading_at (record { start = start; frame = Element (suc n - 1) vs } ∷ begun) place) (sym e)
+pub element_goes_on : (ahead start at : ℕ) (ts us : List TermValue) (t : TermValue) → 0 < ahead → us ≡ ts ++ t ∷ [] → (begun : List Begun) (position : Position)
+    → resume (record { start = start; frame = Element ahead ts } ∷ begun) at t position ≡ reading_at (record { start = start; frame = Element (ahead - 1) us } ∷ begun) position
+element_goes_on zero start at ts us t h e begun position = absurd (omega arith)
+element_goes_on (suc n) start at ts us t h e begun position =
+    element_more n start at ts t begun position
+    ∙ ap (λ m. reading_at (record { start = start; frame = Element m (ts ++ t ∷ []) } ∷ begun) position) (omega arith)
+    ∙ ap (λ vs. reading_at (record { start = start; frame = Element (suc n - 1) vs } ∷ begun) position) (sym e)
 
-pub element_ends : (ahead start at : ℕ) (ts us : List TermValue) (t : TermValue) → ahead ≡ 0 → us ≡ ts ++ t ∷ [] → (begun : List Begun) (place : Place)
-    → resume (record { start = start; frame = Element ahead ts } ∷ begun) at t place ≡ resume begun start (tuple (chain us nil)) place
-element_ends ahead start at ts us t h e begun place =
-    ap (λ n. resume (record { start = start; frame = Element n ts } ∷ begun) at t place) h ∙ ap (λ vs. resume begun start (tuple (chain vs nil)) place) (sym e)
+pub element_ends : (ahead start at : ℕ) (ts us : List TermValue) (t : TermValue) → ahead ≡ 0 → us ≡ ts ++ t ∷ [] → (begun : List Begun) (position : Position)
+    → resume (record { start = start; frame = Element ahead ts } ∷ begun) at t position ≡ resume begun start (tuple (chain us nil)) position
+element_ends ahead start at ts us t h e begun position =
+    ap (λ n. resume (record { start = start; frame = Element n ts } ∷ begun) at t position) h ∙ ap (λ vs. resume begun start (tuple (chain vs nil)) position) (sym e)
 
-pub item_goes_on : (ahead start at : ℕ) (ts us : List TermValue) (t : TermValue) → 0 < ahead → us ≡ ts ++ t ∷ [] → (begun : List Begun) (place : Place)
-    → resume (record { start = start; frame = Item ahead ts } ∷ begun) at t place ≡ reading_at (record { start = start; frame = Item (ahead - 1) us } ∷ begun) place
-item_goes_on zero start at ts us t h e begun place = absurd (omega arith)
-item_goes_on (suc n) start at ts us t h e begun place =
-    item_more n start at ts t begun place
-    ∙ ap (λ m. reading_at (record { start = start; frame = Item m (ts ++ t ∷ []) } ∷ begun) place) (omega arith)
-    ∙ ap (λ vs. reading_at (record { start = start; frame = Item (suc n - 1) vs } ∷ begun) place) (sym e)
+pub item_goes_on : (ahead start at : ℕ) (ts us : List TermValue) (t : TermValue) → 0 < ahead → us ≡ ts ++ t ∷ [] → (begun : List Begun) (position : Position)
+    → resume (record { start = start; frame = Item ahead ts } ∷ begun) at t position ≡ reading_at (record { start = start; frame = Item (ahead - 1) us } ∷ begun) position
+item_goes_on zero start at ts us t h e begun position = absurd (omega arith)
+item_goes_on (suc n) start at ts us t h e begun position =
+    item_more n start at ts t begun position
+    ∙ ap (λ m. reading_at (record { start = start; frame = Item m (ts ++ t ∷ []) } ∷ begun) position) (omega arith)
+    ∙ ap (λ vs. reading_at (record { start = start; frame = Item (suc n - 1) vs } ∷ begun) position) (sym e)
 
-pub items_end : (ahead start at : ℕ) (ts us : List TermValue) (t : TermValue) → ahead ≡ 0 → us ≡ ts ++ t ∷ [] → (begun : List Begun) (place : Place)
-    → resume (record { start = start; frame = Item ahead ts } ∷ begun) at t place ≡ reading_at (record { start = start; frame = Tail us } ∷ begun) place
-items_end ahead start at ts us t h e begun place =
-    ap (λ n. resume (record { start = start; frame = Item n ts } ∷ begun) at t place) h ∙ item_last start at ts t begun place
-    ∙ ap (λ vs. reading_at (record { start = start; frame = Tail vs } ∷ begun) place) (sym e)
+pub items_end : (ahead start at : ℕ) (ts us : List TermValue) (t : TermValue) → ahead ≡ 0 → us ≡ ts ++ t ∷ [] → (begun : List Begun) (position : Position)
+    → resume (record { start = start; frame = Item ahead ts } ∷ begun) at t position ≡ reading_at (record { start = start; frame = Tail us } ∷ begun) position
+items_end ahead start at ts us t h e begun position =
+    ap (λ n. resume (record { start = start; frame = Item n ts } ∷ begun) at t position) h ∙ item_last start at ts t begun position
+    ∙ ap (λ vs. reading_at (record { start = start; frame = Tail vs } ∷ begun) position) (sym e)
 
-pub value_goes_on : (ahead start at : ℕ) (ps qs : List (TermValue × TermValue)) (k v : TermValue) → 0 < ahead → qs ≡ placed (k, v) ps → (begun : List Begun) (place : Place)
-    → resume (record { start = start; frame = Value ahead ps k } ∷ begun) at v place ≡ reading_at (record { start = start; frame = Key (ahead - 1) qs } ∷ begun) place
-value_goes_on zero start at ps qs k v h e begun place = absurd (omega arith)
-value_goes_on (suc n) start at ps qs k v h e begun place =
-    value_more n start at ps k v begun place
-    ∙ ap (λ m. reading_at (record { start = start; frame = Key m (placed (k, v) ps) } ∷ begun) place) (omega arith)
-    ∙ ap (λ rs. reading_at (record { start = start; frame = Key (suc n - 1) rs } ∷ begun) place) (sym e)
+pub value_goes_on : (ahead start at : ℕ) (ps qs : List (TermValue × TermValue)) (k v : TermValue) → 0 < ahead → qs ≡ placed (k, v) ps → (begun : List Begun) (position : Position)
+    → resume (record { start = start; frame = Value ahead ps k } ∷ begun) at v position ≡ reading_at (record { start = start; frame = Key (ahead - 1) qs } ∷ begun) position
+value_goes_on zero start at ps qs k v h e begun position = absurd (omega arith)
+value_goes_on (suc n) start at ps qs k v h e begun position =
+    value_more n start at ps k v begun position
+    ∙ ap (λ m. reading_at (record { start = start; frame = Key m (placed (k, v) ps) } ∷ begun) position) (omega arith)
+    ∙ ap (λ rs. reading_at (record { start = start; frame = Key (suc n - 1) rs } ∷ begun) position) (sym e)
 
-pub values_end : (ahead start at : ℕ) (ps qs : List (TermValue × TermValue)) (k v : TermValue) → ahead ≡ 0 → qs ≡ placed (k, v) ps → (begun : List Begun) (place : Place)
-    → resume (record { start = start; frame = Value ahead ps k } ∷ begun) at v place ≡ resume begun start (map_of qs) place
-values_end ahead start at ps qs k v h e begun place =
-    ap (λ n. resume (record { start = start; frame = Value n ps k } ∷ begun) at v place) h ∙ ap (λ rs. resume begun start (map_of rs) place) (sym e)
+pub values_end : (ahead start at : ℕ) (ps qs : List (TermValue × TermValue)) (k v : TermValue) → ahead ≡ 0 → qs ≡ placed (k, v) ps → (begun : List Begun) (position : Position)
+    → resume (record { start = start; frame = Value ahead ps k } ∷ begun) at v position ≡ resume begun start (map_of qs) position
+values_end ahead start at ps qs k v h e begun position =
+    ap (λ n. resume (record { start = start; frame = Value n ps k } ∷ begun) at v position) h ∙ ap (λ rs. resume begun start (map_of rs) position) (sym e)
 
 -- what was built is what was to be built
 pub one_made : {A E : Type 0} (r : Result A E) (t x : A) → r ≡ Ok t → r ≡ Ok x → t ≡ x

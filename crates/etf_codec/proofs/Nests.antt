@@ -7,7 +7,7 @@ use Rattle.std.proofs.lemmas.List.{reverse-append, length-append, length-reverse
 use Rattle.dets_term.specs.TermValue.{TermValue, depth}
 use Rattle.etf_model.specs.declared.fault.EtfFault.{EtfFault}
 use Rattle.etf_model.specs.declared.fault.EtfFault.TheVariants.{Short, Memory, RepeatedKey}
-use Rattle.etf_model.specs.Format.{Place}
+use Rattle.etf_model.specs.Format.{Position}
 use Rattle.etf_codec.specs.declared.joining.Joined.TheVariants.{Whole, Open}
 use Rattle.etf_codec.specs.Joins.{JoinsTo, JoinsWithin}
 use Rattle.etf_codec.specs.declared.frame.Begun.{Begun}
@@ -64,35 +64,35 @@ module _ (old bs : List Begun) (b : Begun) (e : old ≡ bs ++ b ∷ []) where
 
     pub whole_step : (start at : ℕ) (whole : TermValue) → JoinsTo b start t (Ok (Whole at whole))
         → ((levels : ℕ) → levels ≤ 255 → FrameFits b.frame levels → PartFits b.frame levels t → JoinsWithin b levels (Ok (Whole at whole)))
-        → IsNest bs × MayCome (reverse bs) whole × ((place : Place) → resume (reverse old) start t place ≡ resume (reverse bs) at whole place)
+        → IsNest bs × MayCome (reverse bs) whole × ((position : Position) → resume (reverse old) start t position ≡ resume (reverse bs) at whole position)
     whole_step start at whole joins within =
         let fits = within (levels_below (b ∷ reverse bs)) (omega arith) frame_255 part_255 in (
           (omega (arith, fewer nest), around b (reverse bs) (nest_is nest)),
           whole_comes b (reverse bs) whole (few nest) (nest_is nest) fits.0 fits.1,
-          λ place. ap (λ begun. resume begun start t place) turned ∙ joins (reverse bs) place,
+          λ position. ap (λ begun. resume begun start t position) turned ∙ joins (reverse bs) position,
         )
 
     pub open_step : (start : ℕ) (c : Begun) (new : List Begun) → reverse new ≡ c ∷ reverse bs → JoinsTo b start t (Ok (Open c))
         → ((levels : ℕ) → levels ≤ 255 → FrameFits b.frame levels → PartFits b.frame levels t → JoinsWithin b levels (Ok (Open c)))
-        → IsNest new × ((place : Place) → resume (reverse old) start t place ≡ reading_at (reverse new) place)
+        → IsNest new × ((position : Position) → resume (reverse old) start t position ≡ reading_at (reverse new) position)
     open_step start c new n joins within =
         let fits = within (levels_below (b ∷ reverse bs)) (omega arith) frame_255 part_255 in (
           (omega (arith, few nest, ap length n, length-reverse new), subst AreBegun (sym n) (in_place b c (reverse bs) (nest_is nest) fits.0 fits.1)),
-          λ place. ap (λ begun. resume begun start t place) turned ∙ joins (reverse bs) place ∙ ap (λ begun. reading_at begun place) (sym n),
+          λ position. ap (λ begun. resume begun start t position) turned ∙ joins (reverse bs) position ∙ ap (λ begun. reading_at begun position) (sym n),
         )
 
     pub fault_step : (start : ℕ) (fault : EtfFault) → JoinsTo b start t (Err fault)
-        → (fault ≡ Memory) ⊎ ((fault ≢ Short) × ((place : Place) → resume (reverse old) start t place ≡ Err fault))
+        → (fault ≡ Memory) ⊎ ((fault ≢ Short) × ((position : Position) → resume (reverse old) start t position ≡ Err fault))
     fault_step start fault (inl h) = inl h
     fault_step start fault (inr h) = inr (
       λ e. let clash : RepeatedKey start ≡ Short = sym h.0 ∙ e in cc,
-      λ place. ap (λ begun. resume begun start t place) turned ∙ h.1 (reverse bs) place,
+      λ position. ap (λ begun. resume begun start t position) turned ∙ h.1 (reverse bs) position,
     )
 
 -- what came first was the same
 pub completes_from : (old mid new : List Begun) (start at : ℕ) (t u : TermValue) (answer : Result (Option TermValue) EtfFault) (fault : EtfFault)
-    → IsErrAnd answer (λ y. y ≡ fault) → ((place : Place) → resume (reverse old) start t place ≡ resume (reverse mid) at u place)
-    → (fault ≡ Memory) ⊎ ((fault ≢ Short) × ((place : Place) → resume (reverse mid) at u place ≡ Err fault)) → Completes old new start t answer
+    → IsErrAnd answer (λ y. y ≡ fault) → ((position : Position) → resume (reverse old) start t position ≡ resume (reverse mid) at u position)
+    → (fault ≡ Memory) ⊎ ((fault ≢ Short) × ((position : Position) → resume (reverse mid) at u position ≡ Err fault)) → Completes old new start t answer
 completes_from old mid new start at t u (Ok x) fault h same e = absurd h
 completes_from old mid new start at t u (Err y) fault h same (inl e) = inl (h ∙ e)
-completes_from old mid new start at t u (Err y) fault h same (inr e) = inr (λ short. e.0 (sym h ∙ short), λ place. same place ∙ e.1 place ∙ ap Err (sym h))
+completes_from old mid new start at t u (Err y) fault h same (inr e) = inr (λ short. e.0 (sym h ∙ short), λ position. same position ∙ e.1 position ∙ ap Err (sym h))

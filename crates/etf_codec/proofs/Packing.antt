@@ -3,6 +3,7 @@ use Rattle.std.proofs.Common.{◌≡◌, ℕ, zero, suc, ◌+◌, ◌-◌, ◌*�
 use Rattle.std.proofs.lemmas.Bool.{agree_below_at, eqb-true, eq-eqb, ne_eqb, not_from_true, cond-true, cond-false}
 use Rattle.std.proofs.lemmas.List.{length-append}
 use Rattle.dets_term.specs.BitString.{byte_bits, bits_of, last_byte, IsPadded}
+use Rattle.etf_model.specs.declared.tags.TheConstants.{BINARY, BIT_BINARY}
 use Rattle.etf_model.specs.Canonical.{high_bits, packed, head, bits_spelling}
 
 -- a byte is its first bits, where the others are zero
@@ -86,19 +87,19 @@ whole-bits_of (x ∷ bytes) = let e = length-bits_of x bytes 8 (omega arith) in 
 
 -- ---- the spelling of padded bytes
 
-pub bits_spelling-whole : (bytes : List ℕ) (used : ℕ) → used ≡ 8 → ((i : ℕ) → get_or bytes i 0 < 256) → IsPadded bytes used → bits_spelling (bits_of bytes used) ≡ head 109 4 (length bytes) ++ bytes
+pub bits_spelling-whole : (bytes : List ℕ) (used : ℕ) → used ≡ 8 → ((i : ℕ) → get_or bytes i 0 < 256) → IsPadded bytes used → bits_spelling (bits_of bytes used) ≡ head BINARY 4 (length bytes) ++ bytes
 bits_spelling-whole bytes used e fits padded =
     let same = packed-bits_of bytes used fits padded.used.0 padded.used.1 padded.zeros in
     let whole : length (bits_of bytes used) % 8 ≡ 0 = ap (λ n. length (bits_of bytes n) % 8) e ∙ whole-bits_of bytes in
     cond-true (length (bits_of bytes used) % 8 == 0) _ _ (eq-eqb _ 0 whole)
-    ∙ ap (λ bs. head 109 4 (length bs) ++ bs) same
+    ∙ ap (λ bs. head BINARY 4 (length bs) ++ bs) same
 
-pub bits_spelling-padded : (bytes : List ℕ) (used : ℕ) → (used ≡ 8 → ⊥) → ((i : ℕ) → get_or bytes i 0 < 256) → IsPadded bytes used → bits_spelling (bits_of bytes used) ≡ head 77 4 (length bytes) ++ (used ∷ bytes)
+pub bits_spelling-padded : (bytes : List ℕ) (used : ℕ) → (used ≡ 8 → ⊥) → ((i : ℕ) → get_or bytes i 0 < 256) → IsPadded bytes used → bits_spelling (bits_of bytes used) ≡ head BIT_BINARY 4 (length bytes) ++ (used ∷ bytes)
 bits_spelling-padded bytes used ne fits padded =
     let low = padded.used.0 in
     let high = padded.used.1 in
     let same = packed-bits_of bytes used fits low high padded.zeros in
     let some = used-bits_of bytes used low (omega arith) padded.used.2 in
     cond-false (length (bits_of bytes used) % 8 == 0) _ _ (ne_eqb _ 0 (λ z. omega arith))
-    ∙ ap (λ n. head 77 4 (length (packed (bits_of bytes used))) ++ (n ∷ packed (bits_of bytes used))) some
-    ∙ ap (λ bs. head 77 4 (length bs) ++ (used ∷ bs)) same
+    ∙ ap (λ n. head BIT_BINARY 4 (length (packed (bits_of bytes used))) ++ (n ∷ packed (bits_of bytes used))) some
+    ∙ ap (λ bs. head BIT_BINARY 4 (length bs) ++ (used ∷ bs)) same

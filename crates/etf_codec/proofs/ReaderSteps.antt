@@ -7,7 +7,8 @@ use Rattle.std.proofs.lemmas.List.{length-reverse}
 use Rattle.dets_term.specs.TermValue.{TermValue, integer}
 use Rattle.etf_model.specs.declared.fault.EtfFault.{EtfFault}
 use Rattle.etf_model.specs.declared.fault.EtfFault.TheVariants.{Short, NotVersion, Memory}
-use Rattle.etf_model.specs.Format.{Place, Reading, byte}
+use Rattle.etf_model.specs.declared.tags.TheConstants.{VERSION}
+use Rattle.etf_model.specs.Format.{Position, Reading, byte}
 use Rattle.etf_model.specs.Exact.{IsExact}
 use Rattle.etf_model.specs.Layout.{signed, limit}
 use Rattle.etf_model.specs.Exactness.{byte-exact, exact-kept}
@@ -16,7 +17,7 @@ use Rattle.etf_codec.specs.declared.big_integer.BigInteger.{BigInteger}
 use Rattle.etf_codec.specs.declared.frame.Begun.{Begun}
 use Rattle.etf_codec.specs.declared.frame.Frame.{Frame}
 use Rattle.etf_codec.specs.declared.frame.Frame.TheVariants.{Element, Item, Tail, Key, Value}
-use Rattle.etf_codec.specs.declared.head.Head.TheVariants.{Whole, Begun as Opened, Number as Big}
+use Rattle.etf_codec.specs.declared.head.Head.TheVariants.{Whole, Open, Number as Big}
 use Rattle.etf_codec.specs.declared.term_reader.Stage.{Stage}
 use Rattle.etf_codec.specs.declared.term_reader.Stage.TheVariants.{Version, Part, Number}
 use Rattle.etf_codec.specs.declared.term_reader.TermReader.{TermReader}
@@ -33,13 +34,13 @@ use Rattle.etf_codec.proofs.Onward.{stays, goes_on_here, goes_on_then, goes_on_a
 -- ---- faults
 
 -- one that was handed on
-pub step_fault : (old new : TermReader) (before behind : Place) (answer : Result (Option TermValue) EtfFault) (fault : EtfFault) → IsErrAnd answer (λ y. y ≡ fault)
+pub step_fault : (old new : TermReader) (before behind : Position) (answer : Result (Option TermValue) EtfFault) (fault : EtfFault) → IsErrAnd answer (λ y. y ≡ fault)
     → ReaderReads old new before behind (Err fault) → StepReads old new before behind answer
 step_fault old new before behind (Ok x) fault h e = absurd h
 step_fault old new before behind (Err y) fault h e = subst (λ f. ReaderReads old new before behind (Err f)) (sym h) e
 
 -- where nothing was read
-pub stays_there : (reader : TermReader) (before behind : Place) (fault : EtfFault) → IsReader reader → (fault ≡ Short → behind ≡ before) → (fault ≡ Memory) ⊎ (reads_on reader before ≡ Err fault)
+pub stays_there : (reader : TermReader) (before behind : Position) (fault : EtfFault) → IsReader reader → (fault ≡ Short → behind ≡ before) → (fault ≡ Memory) ⊎ (reads_on reader before ≡ Err fault)
     → ReaderReads reader reader before behind (Err fault)
 stays_there reader before behind fault r same h =
     (h, λ short. (r, subst (λ p. GoesOn (reads_on reader) (reads_on reader) before p) (sym (same short)) (stays (reads_on reader) before)))
@@ -52,11 +53,11 @@ if_ok (Err e) P p = tt
 -- ---- stages
 
 -- a reader at a stage
-pub at_stage : (reader : TermReader) (stage : Stage) → reader.stage ≡ stage → (place : Place) → reads_on reader place ≡ reads_next stage reader.begun.items place
-at_stage reader stage e place = ap (λ s. reads_next s reader.begun.items place) e
+pub at_stage : (reader : TermReader) (stage : Stage) → reader.stage ≡ stage → (position : Position) → reads_on reader position ≡ reads_next stage reader.begun.items position
+at_stage reader stage e position = ap (λ s. reads_next s reader.begun.items position) e
 
 -- the terms that were begun complete a part
-pub completed : (old new : TermReader) (before behind : Place) (start : ℕ) (t : TermValue) (answer : Result (Option TermValue) EtfFault) → new.stage ≡ Part
+pub completed : (old new : TermReader) (before behind : Position) (start : ℕ) (t : TermValue) (answer : Result (Option TermValue) EtfFault) → new.stage ≡ Part
     → GoesOn (reads_on old) (resume (reverse old.begun.items) start t) before behind → Completes old.begun.items new.begun.items start t answer
     → StepReads old new before behind answer
 completed old new before behind start t (Ok (Some whole)) part g c =
@@ -70,8 +71,8 @@ completed old new before behind start t (Err fault) part g (inl h) = (inl h, λ 
 completed old new before behind start t (Err fault) part g (inr h) =
     (inr (goes_on_here (reads_on old) (resume (reverse old.begun.items) start t) before behind g ∙ h.1 behind), λ short. absurd (h.0 short))
 
-module _ (old : TermReader) (reader : IsReader old) (part : old.stage ≡ Part) (before : Place) where
-  from_part : (S : Place → Reading TermValue) (behind : Place) → GoesOn (reading_at (reverse old.begun.items)) S before behind → GoesOn (reads_on old) S before behind
+module _ (old : TermReader) (reader : IsReader old) (part : old.stage ≡ Part) (before : Position) where
+  from_part : (S : Position → Reading TermValue) (behind : Position) → GoesOn (reading_at (reverse old.begun.items)) S before behind → GoesOn (reads_on old) S before behind
   from_part S behind g =
       goes_on_as (reading_at (reverse old.begun.items)) S (reads_on old) S before behind g
       (λ here later same. at_stage old Part part (record { offset = before.offset; left = here }) ∙ same)
@@ -80,21 +81,21 @@ module _ (old : TermReader) (reader : IsReader old) (part : old.stage ≡ Part) 
   fault_from_part fault (inl memory) = inl memory
   fault_from_part fault (inr e) = inr (at_stage old Part part before ∙ e)
 
-  pub part_fault : (behind : Place) (answer : Result (Option TermValue) EtfFault) (fault : EtfFault) → IsErrAnd answer (λ y. y ≡ fault) → NextReads old.begun.items before behind (Err fault)
+  pub part_fault : (behind : Position) (answer : Result (Option TermValue) EtfFault) (fault : EtfFault) → IsErrAnd answer (λ y. y ≡ fault) → NextReads old.begun.items before behind (Err fault)
       → StepReads old old before behind answer
   part_fault behind answer fault h n =
       step_fault old old before behind answer fault h
       (stays_there old before behind fault reader (λ short. n.0) (fault_from_part fault n.1))
 
-  pub part_whole : (new : TermReader) (behind : Place) (start : ℕ) (t : TermValue) (answer : Result (Option TermValue) EtfFault) → new.stage ≡ Part → start ≡ before.offset
+  pub part_whole : (new : TermReader) (behind : Position) (start : ℕ) (t : TermValue) (answer : Result (Option TermValue) EtfFault) → new.stage ≡ Part → start ≡ before.offset
       → NextReads old.begun.items before behind (Ok (Whole t)) → Completes old.begun.items new.begun.items start t answer → StepReads old new before behind answer
   part_whole new behind start t answer stage s n c =
       completed old new before behind start t answer stage
       (from_part (resume (reverse old.begun.items) start t) behind
       (subst (λ o. GoesOn (reading_at (reverse old.begun.items)) (resume (reverse old.begun.items) o t) before behind) (sym s) n.1)) c
 
-  pub part_opens : (new : TermReader) (behind : Place) (start : ℕ) (frame : Frame) → new.stage ≡ Part → start ≡ before.offset → reverse new.begun.items ≡ record { start = start; frame = frame } ∷ reverse old.begun.items
-      → NextReads old.begun.items before behind (Ok (Opened frame)) → StepReads old new before behind (Ok None)
+  pub part_opens : (new : TermReader) (behind : Position) (start : ℕ) (frame : Frame) → new.stage ≡ Part → start ≡ before.offset → reverse new.begun.items ≡ record { start = start; frame = frame } ∷ reverse old.begun.items
+      → NextReads old.begun.items before behind (Ok (Open frame)) → StepReads old new before behind (Ok None)
   part_opens new behind start frame stage s pushed n =
       let all : reverse new.begun.items ≡ record { start = before.offset; frame = frame } ∷ reverse old.begun.items = pushed ∙ ap (λ o. record { start = o; frame = frame } ∷ reverse old.begun.items) s in (
         (
@@ -106,22 +107,22 @@ module _ (old : TermReader) (reader : IsReader old) (part : old.stage ≡ Part) 
             (λ here later same. same ∙ ap (λ bs. reading_at bs (record { offset = behind.offset; left = later })) (sym all) ∙ sym (at_stage new Part stage (record { offset = behind.offset; left = later })))),
       )
 
-  pub part_number : (b : BigInteger) (behind : Place) → NextReads old.begun.items before behind (Ok (Big b)) → StepReads old (record { stage = Number b; begun = old.begun }) before behind (Ok None)
+  pub part_number : (b : BigInteger) (behind : Position) → NextReads old.begun.items before behind (Ok (Big b)) → StepReads old (record { stage = Number b; begun = old.begun }) before behind (Ok None)
   part_number b behind n = ((reader.0, n.0), from_part (reads_next (Number b) old.begun.items) behind n.1)
 
 -- ---- the byte in front
 
 -- it is 131
-pub version_there : (before behind : Place) (version : ℕ) → version ≡ 131 → byte.read before.offset before ≡ Ok (version, behind) → VersionReads before behind (Ok tt)
+pub version_there : (before behind : Position) (version : ℕ) → version ≡ 131 → byte.read before.offset before ≡ Ok (version, behind) → VersionReads before behind (Ok tt)
 version_there before behind version e h =
-    goes_on_as (byte.read before.offset) (λ place. Ok (version, place)) (reads_next Version []) (reads_next Part []) before behind
+    goes_on_as (byte.read before.offset) (λ position. Ok (version, position)) (reads_next Version []) (reads_next Part []) before behind
     (whatever_follows byte byte-exact before.offset before behind version h)
     (λ here later same.
-    go_on_ok _ _ _ _ (test_passes _ version (record { offset = behind.offset; left = later }) (λ x. x == 131) (λ x. NotVersion before.offset) same (ap (λ x. x == 131) e))
+    go_on_ok _ _ _ _ (test_passes _ version (record { offset = behind.offset; left = later }) (λ x. x == VERSION) (λ x. NotVersion before.offset) same (ap (λ x. x == VERSION) e))
     ∙ first_reading before.offset (record { offset = behind.offset; left = later }))
 
 -- none is there
-pub version_missing : (before behind : Place) (answer : Result (Unit {0}) EtfFault) (fault : EtfFault) → IsErrAnd answer (λ y. y ≡ fault) → behind ≡ before → byte.read before.offset before ≡ Err fault
+pub version_missing : (before behind : Position) (answer : Result (Unit {0}) EtfFault) (fault : EtfFault) → IsErrAnd answer (λ y. y ≡ fault) → behind ≡ before → byte.read before.offset before ≡ Err fault
     → VersionReads before behind answer
 version_missing before behind (Ok none) fault h stays e = absurd h
 version_missing before behind (Err y) fault h stays e = (go_on_err _ _ _ (go_on_err _ _ _ e) ∙ ap Err (sym h), λ short. stays)
@@ -145,15 +146,15 @@ integer_comes begun t nest leaf = leaf_comes (reverse begun) t (omega (arith, ne
 
 bytes_left-exact : (b : BigInteger) → IsExact (bytes_left b)
 bytes_left-exact b =
-    magnitude-kept (λ A F. IsExact F) exact-kept (limit b.sign) (256 ^ b.place) b.magnitude (b.length - b.place)
+    magnitude-kept (λ A F. IsExact F) exact-kept (limit b.sign) (256 ^ b.index) b.magnitude (b.length - b.index)
     (λ m. integer (signed b.sign m))
 
-module _ (old : TermReader) (reader : IsReader old) (b : BigInteger) (number : old.stage ≡ Number b) (before behind : Place) where
+module _ (old : TermReader) (reader : IsReader old) (b : BigInteger) (number : old.stage ≡ Number b) (before behind : Position) where
   pub number_whole : (c : BigInteger) (new : TermReader) (t : TermValue) (answer : Result (Option TermValue) EtfFault) → new.stage ≡ Part → IntegerReads b c before behind (Ok t)
       → Completes old.begun.items new.begun.items b.start t answer → StepReads old new before behind answer
   number_whole c new t answer stage e done =
       completed old new before behind b.start t answer stage
-      (goes_on_as (integer_read b) (λ place. Ok (t, place)) (reads_on old) (resume (reverse old.begun.items) b.start t) before behind
+      (goes_on_as (integer_read b) (λ position. Ok (t, position)) (reads_on old) (resume (reverse old.begun.items) b.start t) before behind
       (whatever_follows (bytes_left b) (bytes_left-exact b) b.start before behind t e)
       (λ here later same. at_stage old (Number b) number (record { offset = before.offset; left = here }) ∙ go_on_ok _ _ _ _ same)) done
 
@@ -167,20 +168,20 @@ module _ (old : TermReader) (reader : IsReader old) (b : BigInteger) (number : o
 
 -- ---- all of it
 
-module _ (old now : TermReader) (before place : Place) (g : GoesOn (reads_on old) (reads_on now) before place) where
-  pub read_whole : (new : TermReader) (behind : Place) (t : TermValue) → StepReads now new place behind (Ok (Some t)) → ReaderReads old new before behind (Ok t)
-  read_whole new behind t e = goes_on_here (reads_on old) (reads_on now) before place g ∙ e
+module _ (old now : TermReader) (before position : Position) (g : GoesOn (reads_on old) (reads_on now) before position) where
+  pub read_whole : (new : TermReader) (behind : Position) (t : TermValue) → StepReads now new position behind (Ok (Some t)) → ReaderReads old new before behind (Ok t)
+  read_whole new behind t e = goes_on_here (reads_on old) (reads_on now) before position g ∙ e
 
-  pub read_more : (new : TermReader) (behind : Place) → StepReads now new place behind (Ok None) → IsReader new × GoesOn (reads_on old) (reads_on new) before behind
-  read_more new behind s = (s.0, goes_on_then (reads_on old) (reads_on now) (reads_on new) before place behind g s.1)
+  pub read_more : (new : TermReader) (behind : Position) → StepReads now new position behind (Ok None) → IsReader new × GoesOn (reads_on old) (reads_on new) before behind
+  read_more new behind s = (s.0, goes_on_then (reads_on old) (reads_on now) (reads_on new) before position behind g s.1)
 
-  from_there : (fault : EtfFault) → (fault ≡ Memory) ⊎ (reads_on now place ≡ Err fault) → (fault ≡ Memory) ⊎ (reads_on old before ≡ Err fault)
+  from_there : (fault : EtfFault) → (fault ≡ Memory) ⊎ (reads_on now position ≡ Err fault) → (fault ≡ Memory) ⊎ (reads_on old before ≡ Err fault)
   from_there fault (inl memory) = inl memory
-  from_there fault (inr e) = inr (goes_on_here (reads_on old) (reads_on now) before place g ∙ e)
+  from_there fault (inr e) = inr (goes_on_here (reads_on old) (reads_on now) before position g ∙ e)
 
-  pub read_fault : (new : TermReader) (behind : Place) (answer : Result TermValue EtfFault) (fault : EtfFault) → IsErrAnd answer (λ y. y ≡ fault) → StepReads now new place behind (Err fault)
+  pub read_fault : (new : TermReader) (behind : Position) (answer : Result TermValue EtfFault) (fault : EtfFault) → IsErrAnd answer (λ y. y ≡ fault) → StepReads now new position behind (Err fault)
       → ReaderReads old new before behind answer
   read_fault new behind (Ok t) fault h s = absurd h
   read_fault new behind (Err y) fault h s =
       subst (λ f. ReaderReads old new before behind (Err f)) (sym h)
-      (from_there fault s.0, λ short. let more = s.1 short in (more.0, goes_on_then (reads_on old) (reads_on now) (reads_on new) before place behind g more.1))
+      (from_there fault s.0, λ short. let more = s.1 short in (more.0, goes_on_then (reads_on old) (reads_on now) (reads_on new) before position behind g more.1))

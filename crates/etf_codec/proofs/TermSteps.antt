@@ -5,7 +5,7 @@ use Rattle.dets_term.specs.TermValue.{TermValue, tuple, nil, chain, elements, is
 use Rattle.dets_term.specs.IsTerm.{built}
 use Rattle.dets_term.specs.Parts.{deepest, parts_depth-chain}
 use Rattle.etf_model.specs.declared.fault.EtfFault.{EtfFault}
-use Rattle.etf_model.specs.Format.{Place, Reading, byte, go_on}
+use Rattle.etf_model.specs.Format.{Position, Reading, byte, go_on}
 use Rattle.etf_model.specs.Spelling.{count, list_of, no_tail, term_with, part_at, tail_at, body_of}
 use Rattle.etf_codec.proofs.Bytes.{go_on_ok, go_on_err, test_passes, test_fails}
 use Rattle.etf_codec.proofs.Built.{built_within}
@@ -13,35 +13,35 @@ use Rattle.etf_codec.proofs.Built.{built_within}
 -- ---- a term by its tag
 
 -- a tag that may stand here
-pub term_step : (test : ℕ → Bool) (fault : ℕ → ℕ → EtfFault) (levels tag term : ℕ) (place next : Place) → 0 < levels → byte.read place.offset place ≡ Ok (tag, next) → test tag ≡ true
-    → (term_with test fault levels).read term place ≡ (body_of (levels - 1) tag).read place.offset next
+pub term_step : (test : ℕ → Bool) (fault : ℕ → ℕ → EtfFault) (levels tag term : ℕ) (position next : Position) → 0 < levels → byte.read position.offset position ≡ Ok (tag, next) → test tag ≡ true
+    → (term_with test fault levels).read term position ≡ (body_of (levels - 1) tag).read position.offset next
 unfolding body_of
-term_step test fault zero tag term place next h e t = absurd (omega arith)
-term_step test fault (suc levels) tag term place next h e t =
-    go_on_ok _ _ _ _ (test_passes _ tag next test (fault place.offset) e t) ∙ ap (λ n. (body_of n tag).read place.offset next) (omega arith)
+term_step test fault zero tag term position next h e t = absurd (omega arith)
+term_step test fault (suc levels) tag term position next h e t =
+    go_on_ok _ _ _ _ (test_passes _ tag next test (fault position.offset) e t) ∙ ap (λ n. (body_of n tag).read position.offset next) (omega arith)
 
 -- one that may not
-pub term_refused : (test : ℕ → Bool) (fault : ℕ → ℕ → EtfFault) (levels tag term : ℕ) (place next : Place) → 0 < levels → byte.read place.offset place ≡ Ok (tag, next) → test tag ≡ false
-    → (term_with test fault levels).read term place ≡ Err (fault place.offset tag)
-term_refused test fault zero tag term place next h e t = absurd (omega arith)
-term_refused test fault (suc levels) tag term place next h e t = go_on_err _ _ _ (test_fails _ tag next test (fault place.offset) e t)
+pub term_refused : (test : ℕ → Bool) (fault : ℕ → ℕ → EtfFault) (levels tag term : ℕ) (position next : Position) → 0 < levels → byte.read position.offset position ≡ Ok (tag, next) → test tag ≡ false
+    → (term_with test fault levels).read term position ≡ Err (fault position.offset tag)
+term_refused test fault zero tag term position next h e t = absurd (omega arith)
+term_refused test fault (suc levels) tag term position next h e t = go_on_err _ _ _ (test_fails _ tag next test (fault position.offset) e t)
 
 -- none
-pub term_fails : (test : ℕ → Bool) (fault : ℕ → ℕ → EtfFault) (levels term : ℕ) (place : Place) (f : EtfFault) → 0 < levels → byte.read place.offset place ≡ Err f
-    → (term_with test fault levels).read term place ≡ Err f
-term_fails test fault zero term place f h e = absurd (omega arith)
-term_fails test fault (suc levels) term place f h e = go_on_err _ _ _ (go_on_err _ _ _ e)
+pub term_fails : (test : ℕ → Bool) (fault : ℕ → ℕ → EtfFault) (levels term : ℕ) (position : Position) (f : EtfFault) → 0 < levels → byte.read position.offset position ≡ Err f
+    → (term_with test fault levels).read term position ≡ Err f
+term_fails test fault zero term position f h e = absurd (omega arith)
+term_fails test fault (suc levels) term position f h e = go_on_err _ _ _ (go_on_err _ _ _ e)
 
 -- ---- lists
 
-again : {A : Type 0} (r : Reading A) → go_on r (λ x place. Ok (x, place)) ≡ r
+again : {A : Type 0} (r : Reading A) → go_on r (λ x position. Ok (x, position)) ≡ r
 again (Ok x) = refl
 again (Err fault) = refl
 
 -- without elements
-pub list_none : (levels term n : ℕ) (place next : Place) → (count levels 4).read term place ≡ Ok (n, next) → n ≡ 0
-    → (list_of (part_at levels) (tail_at levels) levels).read term place ≡ no_tail.read term next
-list_none levels term n place next e none =
+pub list_none : (levels term n : ℕ) (position next : Position) → (count levels 4).read term position ≡ Ok (n, next) → n ≡ 0
+    → (list_of (part_at levels) (tail_at levels) levels).read term position ≡ no_tail.read term next
+list_none levels term n position next e none =
     go_on_ok _ _ _ _ (e ∙ ap (λ k. Ok (k, next)) none) ∙ again (no_tail.read term next)
 
 below : (b : Bool) (n : ℕ) → cond b n (suc n) ≤ suc n

@@ -1,6 +1,6 @@
 -- What holds of the fields of a feed of spellings.
 use Rattle.std.specs.Prelude.{◌≡◌, ℕ, ◌+◌, ◌<◌, ◌≤◌, ◌^◌, List, ◌++◌, length, take}
-use Rattle.etf_model.specs.FeedState.{longest}
+use Rattle.etf_model.specs.SpellingFeed.{longest}
 use Rattle.etf_model.specs.Spelling.{spelling}
 use Rattle.etf_codec.specs.declared.feed.TermFeed.TheInside.{Inside}
 use Rattle.etf_codec.specs.TermReader.{IsReader, reads_on}

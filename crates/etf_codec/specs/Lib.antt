@@ -2,7 +2,7 @@
 pub use Rattle.etf_model.specs.Canonical
 pub use Rattle.etf_model.specs.Decoding
 pub use Rattle.etf_model.specs.Skipping
-pub use Rattle.etf_model.specs.FeedState
+pub use Rattle.etf_model.specs.SpellingFeed
 pub use Rattle.etf_model.specs.Next
 -- ---- middles, which only private contracts cite. `Machine` says what is left to read of terms that are begun, by which
 -- the code reads part by part.

@@ -16,8 +16,8 @@ pub(crate) struct BigInteger {
     pub(crate) sign: u8,
     /// How many bytes its magnitude has.
     pub(crate) length: u32,
-    /// The place of the next byte, counted from 0 and from the lowest.
-    pub(crate) place: u32,
+    /// The index of the next byte, counted from 0 and from the lowest.
+    pub(crate) index: u32,
     /// The magnitude of the bytes before it.
     pub(crate) magnitude: u128,
 }
@@ -32,13 +32,13 @@ impl BigInteger {
     {
         let most = limit_of(self.sign);
         let length = self.length;
-        while self.place < length {
+        while self.index < length {
             let digit = cursor.byte()?;
-            let magnitude = raised(self.magnitude, digit, self.place, most).ok_or(
+            let magnitude = raised(self.magnitude, digit, self.index, most).ok_or(
                 EtfFault::IntegerRange(self.start),
             )?;
             self.magnitude = magnitude;
-            self.place += 1;
+            self.index += 1;
         }
         Ok(Term::int(with_sign(self.sign, self.magnitude)))
     }
@@ -65,20 +65,20 @@ fn with_sign(sign: u8, magnitude: u128) -> i128
     }
 }
 
-/// A magnitude with one more byte, which stands at a place, counted from 0 and from the lowest; `None` where that is
+/// A magnitude with one more byte, which stands at a index, counted from 0 and from the lowest; `None` where that is
 /// more than `most`.
-fn raised(magnitude: u128, digit: u8, place: u32, most: u128) -> Option<u128>
+fn raised(magnitude: u128, digit: u8, index: u32, most: u128) -> Option<u128>
     requires { magnitude ≤ most }
-    ensures { MatchOption result (most < magnitude + 256 ^ place * digit) (λ m. (m ≡ magnitude + 256 ^ place * digit)
+    ensures { MatchOption result (most < magnitude + 256 ^ index * digit) (λ m. (m ≡ magnitude + 256 ^ index * digit)
         × (m ≤ most)) }
 {
     if digit == 0 {
         return Some(magnitude);
     }
-    if place >= 16 {
+    if index >= 16 {
         return None;
     }
-    let part = 256u128.pow(place) * u128::from(digit);
+    let part = 256u128.pow(index) * u128::from(digit);
     if part <= most - magnitude {
         Some(magnitude + part)
     } else {

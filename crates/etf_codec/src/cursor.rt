@@ -6,7 +6,7 @@ ghost use Rattle.etf_codec.specs.Reads.{Reads};
 use crate::EtfFault;
 use std::marker::Model;
 
-/// A place in some bytes that begin at an offset: its own offset and what is left.
+/// A position in some bytes that begin at an offset: its own offset and what is left.
 #[derive(Drop)]
 pub struct Cursor<'a> {
     start: u64,
@@ -16,12 +16,12 @@ pub struct Cursor<'a> {
 
 impl<'a> Model for Cursor<'a> {
     ghost use Rattle.std.specs.Prelude.{◌≤◌, ◌<◌, ◌+◌, ◌^◌, length};
-    ghost use Rattle.etf_model.specs.Format.{Place};
-    ghost use Rattle.etf_codec.specs.Reads.{place_at};
+    ghost use Rattle.etf_model.specs.Format.{Position};
+    ghost use Rattle.etf_codec.specs.Reads.{position_at};
 
-    ghost Value = { Place };
+    ghost Value = { Position };
 
-    ghost view = { λ a. place_at a.start a.bytes.now a.at };
+    ghost view = { λ a. position_at a.start a.bytes.now a.at };
 
     ghost invariant = { λ a. (a.at ≤ length a.bytes.now) × (a.start + length a.bytes.now < 2 ^ 64) };
 }
@@ -39,14 +39,14 @@ impl<'a> Cursor<'a> {
         }
     }
 
-    /// The offset of this place.
+    /// The offset of this position.
     pub fn offset(&self) -> u64
         ensures { result ≡ self.now.offset }
     {
         self.start + self.at as u64
     }
 
-    /// Another one at this place.
+    /// Another one at this position.
     pub fn copied(&self) -> Cursor<'a>
         ensures { result ≡ self.now }
     {
@@ -57,7 +57,7 @@ impl<'a> Cursor<'a> {
         }
     }
 
-    /// The next byte. Where there is none the place stays.
+    /// The next byte. Where there is none the position stays.
     pub fn byte(&mut self) -> Result<u8, EtfFault>
         ensures reads { (term : ℕ) → Reads byte term self.old self.new result }
         ensures shorter { IfOk result (λ x. length self.new.left < length self.old.left) }

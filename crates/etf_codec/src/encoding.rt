@@ -7,41 +7,15 @@ ghost use Rattle.etf_model.specs.Canonical.{canonical, head, tuple_head, text_he
 
 use crate::Memory;
 use dets_term::{ByteList, Node, PairList, Term, TermList};
+use etf_model::tags::{
+    ATOM_UTF8, BINARY, BIT_BINARY, INTEGER, LARGE_TUPLE, LIST, MAP, NIL, SMALL_ATOM_UTF8,
+    SMALL_BIG, SMALL_INTEGER, SMALL_TUPLE, STRING, VERSION,
+};
 use std::alloc::Global;
-
-/// The byte in front of each spelling.
-const VERSION: u8 = 131;
-
-// The tags of the External Term Format.
-const BIT_BINARY: u8 = 77;
-
-const SMALL_INTEGER: u8 = 97;
-
-const INTEGER: u8 = 98;
-
-const SMALL_TUPLE: u8 = 104;
-
-const LARGE_TUPLE: u8 = 105;
-
-const NIL: u8 = 106;
-
-const STRING: u8 = 107;
-
-const LIST: u8 = 108;
-
-const BINARY: u8 = 109;
-
-const SMALL_BIG: u8 = 110;
-
-const MAP: u8 = 116;
-
-const ATOM_UTF8: u8 = 118;
-
-const SMALL_ATOM_UTF8: u8 = 119;
 
 /// The canonical spelling of a term, with the byte 131 in front.
 pub fn encode(alloc: Global, term: &Term) -> Result<ByteList, Memory>
-    ensures { IfOk result (λ bytes. bytes ≡ 131 ∷ canonical term.now) }
+    ensures { IfOk result (λ bytes. bytes ≡ VERSION ∷ canonical term.now) }
 {
     let mut out = ByteList::new(alloc);
     out.push(VERSION)?;
@@ -81,8 +55,8 @@ fn encode_term(out: &mut ByteList, term: &Term) -> Result<(), Memory>
 fn encode_each(out: &mut ByteList, parts: &TermList) -> Result<(), Memory>
     ensures { OnOk result (out.new ≡ out.old ++ flat_map canonical parts.now) }
 {
-    for place in 0..parts.len() {
-        if let Some(part) = parts.get(place) {
+    for index in 0..parts.len() {
+        if let Some(part) = parts.get(index) {
             encode_term(out, part)?;
         }
     }
@@ -94,8 +68,8 @@ fn encode_each(out: &mut ByteList, parts: &TermList) -> Result<(), Memory>
 fn encode_pairs(out: &mut ByteList, pairs: &PairList) -> Result<(), Memory>
     ensures { OnOk result (out.new ≡ out.old ++ flat_map (λ p. canonical p.0 ++ canonical p.1) pairs.now) }
 {
-    for place in 0..pairs.len() {
-        if let Some(pair) = pairs.get(place) {
+    for index in 0..pairs.len() {
+        if let Some(pair) = pairs.get(index) {
             encode_term(out, &pair.0)?;
             encode_term(out, &pair.1)?;
         }
@@ -217,8 +191,8 @@ fn are_bytes(parts: &TermList) -> bool
     if parts.len() > 65_535 {
         return false;
     }
-    for place in 0..parts.len() {
-        if parts.get(place).and_then(byte_of).is_none() {
+    for index in 0..parts.len() {
+        if parts.get(index).and_then(byte_of).is_none() {
             return false;
         }
     }
@@ -238,12 +212,12 @@ fn byte_of(term: &Term) -> Option<u8>
 /// A list of bytes, as one byte for each element.
 fn encode_string(out: &mut ByteList, parts: &TermList) -> Result<(), Memory>
     requires { are_bytes parts.now ≡ true }
-    ensures { OnOk result (out.new ≡ out.old ++ (head 107 2 (length parts.now) ++ map byte_value parts.now)) }
+    ensures { OnOk result (out.new ≡ out.old ++ (head STRING 2 (length parts.now) ++ map byte_value parts.now)) }
 {
     out.push(STRING)?;
     out.extend_from_slice(&(parts.len() as u16).to_be_bytes())?;
-    for place in 0..parts.len() {
-        if let Some(byte) = parts.get(place).and_then(byte_of) {
+    for index in 0..parts.len() {
+        if let Some(byte) = parts.get(index).and_then(byte_of) {
             out.push(byte)?;
         }
     }

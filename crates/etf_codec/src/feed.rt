@@ -1,6 +1,6 @@
 ghost use Rattle.std.specs.Prelude.{◌≡◌, ◌<◌, ◌+◌, ◌^◌, [], ◌++◌, length, true, false, None, Ok, Err, IfOk, IfErr, OnOk, OnErr};
 ghost use Rattle.etf_model.specs.Answers.{Answers};
-ghost use Rattle.etf_model.specs.FeedState.{FeedState, total, front_of, failed};
+ghost use Rattle.etf_model.specs.SpellingFeed.{SpellingFeed, total, front_of, failed};
 ghost use Rattle.etf_model.specs.Next.{Gives, IsNext};
 ghost use Rattle.etf_model.specs.Spelling.{spelling, IsPart};
 
@@ -33,9 +33,9 @@ pub struct TermFeed {
 }
 
 impl Model for TermFeed {
-    ghost use Rattle.etf_model.specs.FeedState.{FeedState};
+    ghost use Rattle.etf_model.specs.SpellingFeed.{SpellingFeed};
 
-    ghost Value = { FeedState };
+    ghost Value = { SpellingFeed };
 
     ghost view = { λ a. record { left = a.left.items; offset = a.offset; finished = a.finished; fault = a.fault } };
 

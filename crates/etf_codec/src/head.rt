@@ -12,6 +12,7 @@ use crate::leaves::{read_leaf, read_no_tail};
 use crate::map_pairs::MapPairs;
 use crate::strings::read_string;
 use dets_term::{PairList, Term, TermList};
+use etf_model::tags::{LARGE_BIG, LARGE_TUPLE, LIST, MAP, SMALL_BIG, SMALL_TUPLE, STRING};
 use std::alloc::Global;
 
 /// A term, or what it begins with.
@@ -19,7 +20,7 @@ use std::alloc::Global;
 pub(crate) enum Head {
     Whole(Term),
     /// It has parts, which are read next.
-    Begun(Frame),
+    Open(Frame),
     /// The bytes of its magnitude are read next.
     Number(BigInteger),
 }
@@ -36,13 +37,13 @@ pub(crate) fn read_head(
     ensures fits { HeadFits tag levels result }
 {
     match tag {
-        104 => tuple_head(alloc, cursor, 1, levels, start),
-        105 => tuple_head(alloc, cursor, 4, levels, start),
-        108 => list_head(alloc, cursor, levels, start),
-        116 => map_head(alloc, cursor, levels, start),
-        107 => Ok(Head::Whole(read_string(alloc, cursor, levels, start)?)),
-        110 => integer_head(cursor, 1, start),
-        111 => integer_head(cursor, 4, start),
+        SMALL_TUPLE => tuple_head(alloc, cursor, 1, levels, start),
+        LARGE_TUPLE => tuple_head(alloc, cursor, 4, levels, start),
+        LIST => list_head(alloc, cursor, levels, start),
+        MAP => map_head(alloc, cursor, levels, start),
+        STRING => Ok(Head::Whole(read_string(alloc, cursor, levels, start)?)),
+        SMALL_BIG => integer_head(cursor, 1, start),
+        LARGE_BIG => integer_head(cursor, 4, start),
         _ => Ok(Head::Whole(read_leaf(alloc, cursor, tag, start)?)),
     }
 }
@@ -56,14 +57,14 @@ fn tuple_head(
 ) -> Result<Head, EtfFault>
     requires { size ≤ 4 }
     ensures reads { HeadReads (tuple_of (part_at levels) levels size) levels start cursor.old cursor.new result }
-    ensures fits { HeadFits 104 levels result }
+    ensures fits { HeadFits SMALL_TUPLE levels result }
 {
     let count = cursor.count(size, levels, start)?;
     if count == 0 {
         let empty = only_memory(Term::tuple(TermList::new(alloc)))?;
         return Ok(Head::Whole(empty));
     }
-    Ok(Head::Begun(Frame::Element(count - 1, TermList::new(alloc))))
+    Ok(Head::Open(Frame::Element(count - 1, TermList::new(alloc))))
 }
 
 fn list_head(
@@ -73,13 +74,13 @@ fn list_head(
     start: u64,
 ) -> Result<Head, EtfFault>
     ensures reads { HeadReads (list_of (part_at levels) (tail_at levels) levels) levels start cursor.old cursor.new result }
-    ensures fits { HeadFits 108 levels result }
+    ensures fits { HeadFits LIST levels result }
 {
     let count = cursor.count(4, levels, start)?;
     if count == 0 {
         return Ok(Head::Whole(read_no_tail(alloc, cursor)?));
     }
-    Ok(Head::Begun(Frame::Item(count - 1, TermList::new(alloc))))
+    Ok(Head::Open(Frame::Item(count - 1, TermList::new(alloc))))
 }
 
 fn map_head(
@@ -89,20 +90,20 @@ fn map_head(
     start: u64,
 ) -> Result<Head, EtfFault>
     ensures reads { HeadReads (map_format (part_at levels) levels) levels start cursor.old cursor.new result }
-    ensures fits { HeadFits 116 levels result }
+    ensures fits { HeadFits MAP levels result }
 {
     let count = cursor.count(4, levels, start)?;
     if count == 0 {
         let empty = only_memory(Term::map(PairList::new(alloc)))?;
         return Ok(Head::Whole(empty));
     }
-    Ok(Head::Begun(Frame::Key(count - 1, MapPairs::new(alloc))))
+    Ok(Head::Open(Frame::Key(count - 1, MapPairs::new(alloc))))
 }
 
 fn integer_head(cursor: &mut Cursor<'_>, size: u32, start: u64) -> Result<Head, EtfFault>
     requires { size ≤ 4 }
     ensures reads { (levels : ℕ) → HeadReads (big_integer size) levels start cursor.old cursor.new result }
-    ensures fits { (levels : ℕ) → HeadFits 110 levels result }
+    ensures fits { (levels : ℕ) → HeadFits SMALL_BIG levels result }
 {
     let length = cursor.number(size)?;
     let sign = cursor.byte()?;
@@ -110,7 +111,7 @@ fn integer_head(cursor: &mut Cursor<'_>, size: u32, start: u64) -> Result<Head, 
         start,
         sign,
         length,
-        place: 0,
+        index: 0,
         magnitude: 0,
     }))
 }

@@ -12,6 +12,10 @@ use crate::building::only_memory;
 use crate::cursor::Cursor;
 use crate::numbers::{integer_32, small_integer};
 use dets_term::{Term, TermList};
+use etf_model::tags::{
+    ATOM, ATOM_UTF8, BINARY, BIT_BINARY, INTEGER, LARGE_BIG, LARGE_TUPLE, LIST, MAP, NIL,
+    SMALL_ATOM, SMALL_ATOM_UTF8, SMALL_BIG, SMALL_INTEGER, SMALL_TUPLE, STRING,
+};
 use std::alloc::Global;
 
 /// What follows the tag of the term without parts that begins at an offset. A tag that has no line of its own is that
@@ -22,19 +26,19 @@ pub(crate) fn read_leaf(
     tag: u8,
     term: u64,
 ) -> Result<Term, EtfFault>
-    requires { (tag ≢ 104) × (tag ≢ 105) × (tag ≢ 107) × (tag ≢ 108) × (tag ≢ 116) × (tag ≢ 110) × (tag ≢ 111) }
+    requires { (tag ≢ SMALL_TUPLE) × (tag ≢ LARGE_TUPLE) × (tag ≢ STRING) × (tag ≢ LIST) × (tag ≢ MAP) × (tag ≢ SMALL_BIG) × (tag ≢ LARGE_BIG) }
     ensures reads { (levels : ℕ) → ReadsWithin (body_of levels tag) term cursor.old cursor.new result }
     ensures leaf { IfOk result IsLeaf }
 {
     match tag {
-        97 => small_integer(cursor),
-        98 => integer_32(cursor),
-        100 => read_atom(alloc, cursor, false, 2, term),
-        115 => read_atom(alloc, cursor, false, 1, term),
-        118 => read_atom(alloc, cursor, true, 2, term),
-        119 => read_atom(alloc, cursor, true, 1, term),
-        109 => read_binary(alloc, cursor),
-        77 => read_bit_binary(alloc, cursor, term),
+        SMALL_INTEGER => small_integer(cursor),
+        INTEGER => integer_32(cursor),
+        ATOM => read_atom(alloc, cursor, false, 2, term),
+        SMALL_ATOM => read_atom(alloc, cursor, false, 1, term),
+        ATOM_UTF8 => read_atom(alloc, cursor, true, 2, term),
+        SMALL_ATOM_UTF8 => read_atom(alloc, cursor, true, 1, term),
+        BINARY => read_binary(alloc, cursor),
+        BIT_BINARY => read_bit_binary(alloc, cursor, term),
         _ => empty_list(alloc),
     }
 }
@@ -46,7 +50,7 @@ pub(crate) fn read_no_tail(alloc: Global, cursor: &mut Cursor<'_>) -> Result<Ter
 {
     let start = cursor.offset();
     let tag = cursor.byte()?;
-    if tag != 106 {
+    if tag != NIL {
         return Err(EtfFault::Unsupported(start, tag));
     }
     empty_list(alloc)

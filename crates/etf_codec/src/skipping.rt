@@ -5,6 +5,11 @@ ghost use Rattle.etf_codec.specs.Reads.{Reads, ReadsAs, behind_tag};
 
 use crate::EtfFault;
 use crate::cursor::Cursor;
+use etf_model::tags::{
+    ATOM, ATOM_UTF8, BINARY, BIT_BINARY, INTEGER, LARGE_BIG, LARGE_TUPLE, LIST, MAP, NEW_FLOAT,
+    NEW_PID, NEW_PORT, NEW_REFERENCE, NEWER_REFERENCE, NIL, PID, PORT, SMALL_ATOM, SMALL_ATOM_UTF8,
+    SMALL_BIG, SMALL_INTEGER, SMALL_TUPLE, STRING, V4_PORT,
+};
 
 #[cfg(test)]
 mod tests;
@@ -41,30 +46,30 @@ fn skip_tagged(cursor: &mut Cursor, levels: u32, tag: u8, at: u64) -> Result<(),
     ensures { ReadsAs (behind_tag (has_layout tag) (Unsupported at tag) (skip_body (skipped_at levels) tag) at cursor.old) cursor.new result }
 {
     match tag {
-        97 => skip_bytes(cursor, 1),
-        98 => skip_bytes(cursor, 4),
-        70 => skip_bytes(cursor, 8),
-        110 => skip_sized(cursor, 1, 1),
-        111 => skip_sized(cursor, 4, 1),
-        100 => skip_sized(cursor, 2, 0),
-        115 => skip_sized(cursor, 1, 0),
-        118 => skip_sized(cursor, 2, 0),
-        119 => skip_sized(cursor, 1, 0),
-        107 => skip_sized(cursor, 2, 0),
-        109 => skip_sized(cursor, 4, 0),
-        77 => skip_sized(cursor, 4, 1),
-        106 => Ok(()),
-        104 => skip_counted(cursor, levels, 1, 1, 0),
-        105 => skip_counted(cursor, levels, 4, 1, 0),
-        108 => skip_counted(cursor, levels, 4, 1, 1),
-        116 => skip_counted(cursor, levels, 4, 2, 0),
-        103 => skip_at_node(cursor, 9),
-        88 => skip_at_node(cursor, 12),
-        102 => skip_at_node(cursor, 5),
-        89 => skip_at_node(cursor, 8),
-        120 => skip_at_node(cursor, 12),
-        114 => skip_reference(cursor, 1),
-        90 => skip_reference(cursor, 4),
+        SMALL_INTEGER => skip_bytes(cursor, 1),
+        INTEGER => skip_bytes(cursor, 4),
+        NEW_FLOAT => skip_bytes(cursor, 8),
+        SMALL_BIG => skip_sized(cursor, 1, 1),
+        LARGE_BIG => skip_sized(cursor, 4, 1),
+        ATOM => skip_sized(cursor, 2, 0),
+        SMALL_ATOM => skip_sized(cursor, 1, 0),
+        ATOM_UTF8 => skip_sized(cursor, 2, 0),
+        SMALL_ATOM_UTF8 => skip_sized(cursor, 1, 0),
+        STRING => skip_sized(cursor, 2, 0),
+        BINARY => skip_sized(cursor, 4, 0),
+        BIT_BINARY => skip_sized(cursor, 4, 1),
+        NIL => Ok(()),
+        SMALL_TUPLE => skip_counted(cursor, levels, 1, 1, 0),
+        LARGE_TUPLE => skip_counted(cursor, levels, 4, 1, 0),
+        LIST => skip_counted(cursor, levels, 4, 1, 1),
+        MAP => skip_counted(cursor, levels, 4, 2, 0),
+        PID => skip_at_node(cursor, 9),
+        NEW_PID => skip_at_node(cursor, 12),
+        PORT => skip_at_node(cursor, 5),
+        NEW_PORT => skip_at_node(cursor, 8),
+        V4_PORT => skip_at_node(cursor, 12),
+        NEW_REFERENCE => skip_reference(cursor, 1),
+        NEWER_REFERENCE => skip_reference(cursor, 4),
         _ => Err(EtfFault::Unsupported(at, tag)),
     }
 }
@@ -122,10 +127,10 @@ fn skip_node(cursor: &mut Cursor) -> Result<(), EtfFault>
 {
     let at = cursor.offset();
     match cursor.byte()? {
-        100 => skip_sized(cursor, 2, 0),
-        118 => skip_sized(cursor, 2, 0),
-        115 => skip_sized(cursor, 1, 0),
-        119 => skip_sized(cursor, 1, 0),
+        ATOM => skip_sized(cursor, 2, 0),
+        ATOM_UTF8 => skip_sized(cursor, 2, 0),
+        SMALL_ATOM => skip_sized(cursor, 1, 0),
+        SMALL_ATOM_UTF8 => skip_sized(cursor, 1, 0),
         tag => Err(EtfFault::Unsupported(at, tag)),
     }
 }

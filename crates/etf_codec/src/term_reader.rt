@@ -1,7 +1,7 @@
 //! Reading a term part by part.
 ghost use Rattle.std.specs.Prelude.{◌≡◌, ◌<◌, ◌∷◌, IfOk, OnOk, reverse, length};
 ghost use Rattle.etf_codec.specs.Begun.{MayCome};
-ghost use Rattle.etf_codec.specs.Tags.{next_position, next_in};
+ghost use Rattle.etf_codec.specs.Tags.{next_role, next_in};
 ghost use Rattle.etf_codec.specs.TermReader.{IsFresh, IsReader, IsNest, Completes, VersionReads, NextReads, StepReads, ReaderReads, ahead};
 ghost use Rattle.etf_codec.specs.declared.term_reader.Stage.TheVariants.{Part};
 
@@ -10,9 +10,10 @@ use crate::cursor::Cursor;
 use crate::frame::{Begun, Frame};
 use crate::head::{Head, read_head};
 use crate::joining::{Joined, join};
-use crate::tags::{Position, read_tag};
+use crate::tags::{Role, read_tag};
 use crate::{EtfFault, Memory};
 use dets_term::Term;
+use etf_model::tags::VERSION;
 use std::alloc::Global;
 
 /// Which bytes of a spelling come next.
@@ -44,7 +45,7 @@ impl TermReader {
         }
     }
 
-    /// Reads on, from the place that was come to. After `Short` it goes on where the bytes ended; after any other answer
+    /// Reads on, from the position that was come to. After `Short` it goes on where the bytes ended; after any other answer
     /// it is of no more use.
     pub(crate) fn read(&mut self, alloc: Global, cursor: &mut Cursor<'_>) -> Result<Term, EtfFault>
         requires { IsReader self.old }
@@ -97,7 +98,7 @@ impl TermReader {
         let head = read_next(alloc, &self.begun, cursor)?;
         match head {
             Head::Whole(term) => complete(alloc, &mut self.begun, start, term),
-            Head::Begun(frame) => {
+            Head::Open(frame) => {
                 push_begun(&mut self.begun, Begun { start, frame })?;
                 Ok(None)
             }
@@ -116,13 +117,13 @@ fn read_version(cursor: &mut Cursor<'_>) -> Result<(), EtfFault>
 {
     let start = cursor.offset();
     let version = cursor.byte()?;
-    if version != 131 {
+    if version != VERSION {
         return Err(EtfFault::NotVersion(start));
     }
     Ok(())
 }
 
-/// The tag of the next part and what follows it. After a fault the place is as it was.
+/// The tag of the next part and what follows it. After a fault the position is as it was.
 fn read_next(alloc: Global, begun: &Vec<Begun>, cursor: &mut Cursor<'_>) -> Result<Head, EtfFault>
     requires { IsNest begun.now.items }
     ensures reads { NextReads begun.now.items cursor.old cursor.new result }
@@ -130,33 +131,33 @@ fn read_next(alloc: Global, begun: &Vec<Begun>, cursor: &mut Cursor<'_>) -> Resu
 {
     let start = cursor.offset();
     let levels = 255 - begun.len() as u32;
-    let position = next_position(begun);
+    let role = next_role(begun);
     let mut behind = cursor.copied();
-    let tag = read_tag(&mut behind, position)?;
+    let tag = read_tag(&mut behind, role)?;
     let head = read_head(alloc, &mut behind, tag, levels, start)?;
     *cursor = behind;
     Ok(head)
 }
 
-/// Where the next part stands.
-fn next_position(begun: &Vec<Begun>) -> Position
-    ensures { result ≡ next_position (reverse begun.now.items) }
+/// What the next part is.
+fn next_role(begun: &Vec<Begun>) -> Role
+    ensures { result ≡ next_role (reverse begun.now.items) }
 {
     match begun.last() {
-        None => Position::First,
+        None => Role::Outermost,
         Some(innermost) => next_in(&innermost.frame),
     }
 }
 
-fn next_in(frame: &Frame) -> Position
+fn next_in(frame: &Frame) -> Role
     ensures { result ≡ next_in frame.now }
 {
     match frame {
-        Frame::Element(_, _) => Position::Part,
-        Frame::Item(_, _) => Position::Part,
-        Frame::Tail(_) => Position::Tail,
-        Frame::Key(_, _) => Position::Part,
-        Frame::Value(_, _, _) => Position::Part,
+        Frame::Element(_, _) => Role::Part,
+        Frame::Item(_, _) => Role::Part,
+        Frame::Tail(_) => Role::Tail,
+        Frame::Key(_, _) => Role::Part,
+        Frame::Value(_, _, _) => Role::Part,
     }
 }
 

@@ -2,7 +2,7 @@
 use Rattle.std.proofs.Common.{◌≡◌, ◌≢◌, ℕ, ◌+◌, List, [], ◌++◌, length, Ok, Err, ◌⊎◌, inl, inr, refl, ap, ◌∙◌, sym, append-nil}
 use Rattle.etf_model.specs.declared.fault.EtfFault.{EtfFault}
 use Rattle.etf_model.specs.declared.fault.EtfFault.TheVariants.{Short}
-use Rattle.etf_model.specs.Format.{Place, Reading, Format}
+use Rattle.etf_model.specs.Format.{Position, Reading, Format}
 use Rattle.etf_model.specs.Exact.{IsExact}
 use Rattle.etf_model.specs.Fronts.{Begins}
 use Rattle.etf_model.specs.Exactness.{same_answer}
@@ -29,7 +29,7 @@ module _ {A : Type 0} (F : Format A) (f : IsExact F) where
   same_whole x y front rest other more v w e =
       let same = same_answer x y (record { offset = 0 + length front; left = rest }) (record { offset = 0 + length other; left = more })
       (sym (f.whole_read 0 0 x front rest v) ∙ ap (reading 0) e ∙ f.whole_read 0 0 y other more w) in
-      (same.0, ap (λ (p : Place). p.left) same.1)
+      (same.0, ap (λ (p : Position). p.left) same.1)
 
   pub no_proper_prefix : (x y : A) (bytes rest : List ℕ) → F.Whole x bytes → F.Whole y (bytes ++ rest) → rest ≡ []
   no_proper_prefix x y bytes rest v w = (same_whole x y bytes rest (bytes ++ rest) [] v w (sym (append-nil (bytes ++ rest)))).1

@@ -9,6 +9,7 @@ use Rattle.dets_term.specs.Pairs.{keys}
 use Rattle.dets_term.specs.Parts.{deepest, deepest_of_pairs, elements-not_list, parts_depth-map_of}
 use Rattle.etf_model.specs.declared.fault.EtfFault.{EtfFault}
 use Rattle.etf_model.specs.declared.fault.EtfFault.TheVariants.{NotVersion, Unsupported, Compressed}
+use Rattle.etf_model.specs.declared.tags.TheConstants.{VERSION, COMPRESSED, NIL, LIST}
 use Rattle.etf_model.specs.Format.{Format}
 use Rattle.etf_model.specs.Layout.{is_known, begins_tail}
 use Rattle.etf_model.specs.Spelling.{tag_of, body, term_with, outermost, Spells}
@@ -175,13 +176,13 @@ not_list t e w = record {
         let v = w levels (omega arith) b in
         term_whole begins_tail (λ term x. Unsupported term x) levels t (canonical t) v (v.ends e)
 
-empty_list : (levels : ℕ) → AtLevel levels nil (106 ∷ [])
+empty_list : (levels : ℕ) → AtLevel levels nil (NIL ∷ [])
 empty_list levels = record { tag = 106; rest = []; same = refl; known = refl; ends = λ e. refl; inside = (refl, refl) }
 
-empty_ending : (levels : ℕ) → 1 ≤ levels → (tail levels).Whole nil (106 ∷ [])
+empty_ending : (levels : ℕ) → 1 ≤ levels → (tail levels).Whole nil (NIL ∷ [])
 unfolding empty_list
 empty_ending zero one = absurd (omega arith)
-empty_ending (suc levels) one = term_whole begins_tail (λ term x. Unsupported term x) levels nil (106 ∷ []) (empty_list levels) refl
+empty_ending (suc levels) one = term_whole begins_tail (λ term x. Unsupported term x) levels nil (NIL ∷ []) (empty_list levels) refl
 
 tuple_canon : (parts : TermValue) → Canon parts → (levels : ℕ) → parts_depth (tuple parts) ≤ levels → IsBounded (tuple parts) → AtLevel levels (tuple parts) (canonical (tuple parts))
 tuple_canon parts c levels h b =
@@ -231,8 +232,8 @@ list_canon first rest c d levels h b =
     tagged_at (part levels) (tail levels) levels t _ _
     (sym (
     cond-false (is_proper t && are_bytes ts) _ _ e
-    ∙ ap (λ n. head 108 4 n ++ (concat parts ++ canonical_end rest)) size
-    ∙ ap (λ bytes. head 108 4 (length ts) ++ (bytes ++ canonical_end rest)) whole
+    ∙ ap (λ n. head LIST 4 n ++ (concat parts ++ canonical_end rest)) size
+    ∙ ap (λ bytes. head LIST 4 (length ts) ++ (bytes ++ canonical_end rest)) whole
     ))
     (list_tagged (part levels) (tail levels) levels ts (list_end rest) t (canonical_end rest) (chain-list_end t) refl (omega arith) few may each
     (d.ending levels (omega arith) (omega arith) b.2)))
@@ -254,9 +255,9 @@ canon (cons first rest) =
     }
 canon (bits bs) = not_list (bits bs) refl (λ levels h b. bits_tagged (part levels) (tail levels) levels bs b)
 
-pub canonical_spells : (t : TermValue) → IsTerm t → Spells t (131 ∷ canonical t)
+pub canonical_spells : (t : TermValue) → IsTerm t → Spells t (VERSION ∷ canonical t)
 canonical_spells t term =
     let shallow = term.shallow in
     let w = (canon t).itself 255 (omega arith) term.bounded in
-    followed_whole (tag_of (λ x. x == 131) (λ term x. NotVersion term)) (λ x. outermost) 131 t (131 ∷ []) (canonical t) (refl, refl)
-    (term_whole is_known (λ term x. cond (x == 80) (Compressed term) (Unsupported term x)) 255 t (canonical t) w w.known)
+    followed_whole (tag_of (λ x. x == VERSION) (λ term x. NotVersion term)) (λ x. outermost) 131 t (VERSION ∷ []) (canonical t) (refl, refl)
+    (term_whole is_known (λ term x. cond (x == COMPRESSED) (Compressed term) (Unsupported term x)) 255 t (canonical t) w w.known)

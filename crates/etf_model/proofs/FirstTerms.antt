@@ -7,7 +7,7 @@ use Rattle.etf_model.specs.declared.fault.EtfFault.TheVariants.{Short, LongTerm,
 use Rattle.etf_model.specs.declared.fed.Fed.{Fed}
 use Rattle.etf_model.specs.declared.fed.Fed.TheVariants.{Term, Again, End}
 use Rattle.etf_model.specs.Answers.{IsFront}
-use Rattle.etf_model.specs.FeedState.{FeedState, front_of, passed}
+use Rattle.etf_model.specs.SpellingFeed.{SpellingFeed, front_of, passed}
 use Rattle.etf_model.specs.History.{Call, empty_feed, IsHistory, fed_bytes, answered_terms, StreamGives}
 use Rattle.etf_model.specs.History.Call.{Piece, Finish, Answer}
 use Rattle.etf_model.specs.Next.{Gives, gives_behind}
@@ -18,7 +18,7 @@ use Rattle.etf_model.proofs.OneAnswer.{no_more, same_first}
 -- ---- what an answer takes
 
 -- a term in front was taken
-record Takes (s new : FeedState) (r : Result Fed EtfFault) : Type 0 where
+record Takes (s new : SpellingFeed) (r : Result Fed EtfFault) : Type 0 where
   term : TermValue
   count : ℕ
   answer : r ≡ Ok (Term term)
@@ -26,36 +26,36 @@ record Takes (s new : FeedState) (r : Result Fed EtfFault) : Type 0 where
   behind : new ≡ passed s count
 
 -- nothing was taken, and no term was answered
-record Leaves (s new : FeedState) (r : Result Fed EtfFault) : Type 0 where
+record Leaves (s new : SpellingFeed) (r : Result Fed EtfFault) : Type 0 where
   offset : new.offset ≡ s.offset
   left : new.left ≡ s.left
   none : (calls : List Call) → answered_terms (Answer r ∷ calls) ≡ answered_terms calls
 
-leaves : (s new : FeedState) (r : Result Fed EtfFault) → new.offset ≡ s.offset → new.left ≡ s.left
+leaves : (s new : SpellingFeed) (r : Result Fed EtfFault) → new.offset ≡ s.offset → new.left ≡ s.left
     → ((calls : List Call) → answered_terms (Answer r ∷ calls) ≡ answered_terms calls) → Takes s new r ⊎ Leaves s new r
 leaves s new r offset left none = inr (record { offset = offset; left = left; none = none })
 
-takes_or_leaves : (s new : FeedState) (r : Result Fed EtfFault) → Gives s new r → Takes s new r ⊎ Leaves s new r
+takes_or_leaves : (s new : SpellingFeed) (r : Result Fed EtfFault) → Gives s new r → Takes s new r ⊎ Leaves s new r
 takes_or_leaves s new (Ok (Term t)) (count, front, e) =
     inl (record { term = t; count = count; answer = refl; front = front; behind = e })
 takes_or_leaves s new (Ok Again) (f, few, p, e) =
-    leaves s new (Ok Again) (ap (λ (n : FeedState). n.offset) e) (ap (λ (n : FeedState). n.left) e) (λ calls. refl)
+    leaves s new (Ok Again) (ap (λ (n : SpellingFeed). n.offset) e) (ap (λ (n : SpellingFeed). n.left) e) (λ calls. refl)
 takes_or_leaves s new (Ok End) (f, none, e) =
-    leaves s new (Ok End) (ap (λ (n : FeedState). n.offset) e) (ap (λ (n : FeedState). n.left) e) (λ calls. refl)
+    leaves s new (Ok End) (ap (λ (n : SpellingFeed). n.offset) e) (ap (λ (n : SpellingFeed). n.left) e) (λ calls. refl)
 takes_or_leaves s new (Err Short) (f, some, few, p, e) =
-    leaves s new (Err Short) (ap (λ (n : FeedState). n.offset) e) (ap (λ (n : FeedState). n.left) e) (λ calls. refl)
+    leaves s new (Err Short) (ap (λ (n : SpellingFeed). n.offset) e) (ap (λ (n : SpellingFeed). n.left) e) (λ calls. refl)
 takes_or_leaves s new (Err (LongTerm at)) (here, long, p, e) =
-    leaves s new (Err (LongTerm at)) (ap (λ (n : FeedState). n.offset) e) (ap (λ (n : FeedState). n.left) e) (λ calls. refl)
+    leaves s new (Err (LongTerm at)) (ap (λ (n : SpellingFeed). n.offset) e) (ap (λ (n : SpellingFeed). n.left) e) (λ calls. refl)
 takes_or_leaves s new (Err Memory) e =
-    leaves s new (Err Memory) (ap (λ (n : FeedState). n.offset) e) (ap (λ (n : FeedState). n.left) e) (λ calls. refl)
+    leaves s new (Err Memory) (ap (λ (n : SpellingFeed). n.offset) e) (ap (λ (n : SpellingFeed). n.left) e) (λ calls. refl)
 takes_or_leaves s new (Err fault) h =
-    leaves s new (Err fault) (ap (λ (n : FeedState). n.offset) h.1) (ap (λ (n : FeedState). n.left) h.1) (λ calls. refl)
+    leaves s new (Err fault) (ap (λ (n : SpellingFeed). n.offset) h.1) (ap (λ (n : SpellingFeed). n.left) h.1) (λ calls. refl)
 
-next_takes_or_leaves : (came : Option EtfFault) (s new : FeedState) (r : Result Fed EtfFault) → gives_behind came s new r
+next_takes_or_leaves : (came : Option EtfFault) (s new : SpellingFeed) (r : Result Fed EtfFault) → gives_behind came s new r
     → Takes s new r ⊎ Leaves s new r
 next_takes_or_leaves None s new r h = takes_or_leaves s new r h
 next_takes_or_leaves (Some fault) s new r h =
-    leaves s new r (ap (λ (n : FeedState). n.offset) h.1) (ap (λ (n : FeedState). n.left) h.1)
+    leaves s new r (ap (λ (n : SpellingFeed). n.offset) h.1) (ap (λ (n : SpellingFeed). n.left) h.1)
     (λ calls. ap (λ q. answered_terms (Answer q ∷ calls)) h.0)
 
 -- ---- the terms of some calls
@@ -66,7 +66,7 @@ AreFirst front all = (more : List TermValue) × (all ≡ front ++ more)
 
 -- the terms of these calls are the first of whatever the stream gives
 abbrev GivesFirst : List Call → Type 0
-GivesFirst calls = (s : FeedState) (rest : List ℕ) (ts : List TermValue) (answer : Result Fed EtfFault) → IsHistory s calls
+GivesFirst calls = (s : SpellingFeed) (rest : List ℕ) (ts : List TermValue) (answer : Result Fed EtfFault) → IsHistory s calls
     → StreamGives s.offset (s.left ++ (fed_bytes calls ++ rest)) ts answer → AreFirst (answered_terms calls) ts
 
 behind_piece : (calls : List Call) → GivesFirst calls → (piece : List ℕ) → GivesFirst (Piece piece ∷ calls)
@@ -77,7 +77,7 @@ behind_piece calls first piece s rest ts answer h given =
     (subst (λ bytes. StreamGives s.offset bytes ts answer) same given)
 
 -- a term in front is the first that the stream gives
-module _ (calls : List Call) (first : GivesFirst calls) (s : FeedState) (t : TermValue) (count : ℕ) (front : IsFront spelling (front_of s) t count) where
+module _ (calls : List Call) (first : GivesFirst calls) (s : SpellingFeed) (t : TermValue) (count : ℕ) (front : IsFront spelling (front_of s) t count) where
   behind_term : (rest : List ℕ) (ts : List TermValue) (answer : Result Fed EtfFault) → IsHistory (passed s count) calls
       → StreamGives s.offset (s.left ++ (fed_bytes calls ++ rest)) ts answer → AreFirst (t ∷ answered_terms calls) ts
   behind_term rest [] answer h given =
@@ -94,7 +94,7 @@ module _ (calls : List Call) (first : GivesFirst calls) (s : FeedState) (t : Ter
       let rests = first (passed s count) rest us answer h at in
       (rests.0, ap₂ (λ x xs. x ∷ xs) (sym same.0) rests.1)
 
-behind_answer : (calls : List Call) → GivesFirst calls → (s new : FeedState) (r : Result Fed EtfFault)
+behind_answer : (calls : List Call) → GivesFirst calls → (s new : SpellingFeed) (r : Result Fed EtfFault)
     → Takes s new r ⊎ Leaves s new r → (rest : List ℕ) (ts : List TermValue) (answer : Result Fed EtfFault)
     → IsHistory new calls → StreamGives s.offset (s.left ++ (fed_bytes calls ++ rest)) ts answer
     → AreFirst (answered_terms (Answer r ∷ calls)) ts

@@ -8,7 +8,7 @@ use Rattle.etf_model.specs.declared.fed.Fed.{Fed}
 use Rattle.etf_model.specs.declared.fed.Fed.TheVariants.{Term, Again, End}
 use Rattle.etf_model.specs.Answers.{IsFront}
 use Rattle.etf_model.specs.Fronts.{Begins}
-use Rattle.etf_model.specs.FeedState.{FeedState, longest, passed, failed}
+use Rattle.etf_model.specs.SpellingFeed.{SpellingFeed, longest, passed, failed}
 use Rattle.etf_model.specs.History.{Call, empty_feed, IsHistory, fed_bytes, answered_terms, is_finished, IsLast, EndsBy, EndsWith, StreamGives}
 use Rattle.etf_model.specs.History.Call.{Piece, Finish, Answer}
 use Rattle.etf_model.specs.Next.{Gives, gives_behind, IsNext}
@@ -53,7 +53,7 @@ begins_grows P bytes more b = record {
 }
 
 -- A fault stays right whatever more is fed. Nothing more is fed where the input is finished.
-fault_stays : (s new : FeedState) (fault : EtfFault) (more : List ℕ) → fault ≢ Memory → (s.finished ≡ true → more ≡ [])
+fault_stays : (s new : SpellingFeed) (fault : EtfFault) (more : List ℕ) → fault ≢ Memory → (s.finished ≡ true → more ≡ [])
     → Gives s new (Err fault) → EndsWith s.offset (s.left ++ more) (Err fault) × (new ≡ failed s fault)
 fault_stays s new Short more m last (f, some, few, p, e) =
     let same : s.left ++ more ≡ s.left = ap (λ l. s.left ++ l) (last f) ∙ append-nil s.left in
@@ -66,7 +66,7 @@ fault_stays s new fault more m last h =
     let Breaks = λ (bytes : List ℕ). Begins (λ front. IsBreak s.offset front fault) bytes in
     (front_grows Breaks (begins_grows (λ front. IsBreak s.offset front fault)) s.left more h.0, h.1)
 
-last_stays : (s new : FeedState) (r : Result Fed EtfFault) (more : List ℕ) → IsLast r → (s.finished ≡ true → more ≡ [])
+last_stays : (s new : SpellingFeed) (r : Result Fed EtfFault) (more : List ℕ) → IsLast r → (s.finished ≡ true → more ≡ [])
     → Gives s new r → EndsWith s.offset (s.left ++ more) r
 last_stays s new (Ok End) more is last h = ap₂ (λ xs ys. xs ++ ys) h.1 (last h.0)
 last_stays s new (Ok other) more is last h = absurd is
@@ -74,21 +74,21 @@ last_stays s new (Err fault) more is last h = (fault_stays s new fault more is l
 
 -- ---- behind the end of input
 
-keeps_finished : (s new : FeedState) (r : Result Fed EtfFault) → Gives s new r → new.finished ≡ s.finished
-keeps_finished s new (Ok (Term t)) (count, front, e) = ap (λ (n : FeedState). n.finished) e
-keeps_finished s new (Ok Again) (f, few, p, e) = ap (λ (n : FeedState). n.finished) e
-keeps_finished s new (Ok End) (f, none, e) = ap (λ (n : FeedState). n.finished) e
-keeps_finished s new (Err Short) (f, some, few, p, e) = ap (λ (n : FeedState). n.finished) e
-keeps_finished s new (Err (LongTerm at)) (here, long, p, e) = ap (λ (n : FeedState). n.finished) e
-keeps_finished s new (Err Memory) e = ap (λ (n : FeedState). n.finished) e
-keeps_finished s new (Err fault) h = ap (λ (n : FeedState). n.finished) h.1
+keeps_finished : (s new : SpellingFeed) (r : Result Fed EtfFault) → Gives s new r → new.finished ≡ s.finished
+keeps_finished s new (Ok (Term t)) (count, front, e) = ap (λ (n : SpellingFeed). n.finished) e
+keeps_finished s new (Ok Again) (f, few, p, e) = ap (λ (n : SpellingFeed). n.finished) e
+keeps_finished s new (Ok End) (f, none, e) = ap (λ (n : SpellingFeed). n.finished) e
+keeps_finished s new (Err Short) (f, some, few, p, e) = ap (λ (n : SpellingFeed). n.finished) e
+keeps_finished s new (Err (LongTerm at)) (here, long, p, e) = ap (λ (n : SpellingFeed). n.finished) e
+keeps_finished s new (Err Memory) e = ap (λ (n : SpellingFeed). n.finished) e
+keeps_finished s new (Err fault) h = ap (λ (n : SpellingFeed). n.finished) h.1
 
-stays_finished : (came : Option EtfFault) (s new : FeedState) (r : Result Fed EtfFault) → gives_behind came s new r
+stays_finished : (came : Option EtfFault) (s new : SpellingFeed) (r : Result Fed EtfFault) → gives_behind came s new r
     → new.finished ≡ s.finished
 stays_finished None s new r h = keeps_finished s new r h
-stays_finished (Some fault) s new r h = ap (λ (n : FeedState). n.finished) h.1
+stays_finished (Some fault) s new r h = ap (λ (n : SpellingFeed). n.finished) h.1
 
-nothing_fed : (calls : List Call) (s : FeedState) → s.finished ≡ true → IsHistory s calls → fed_bytes calls ≡ []
+nothing_fed : (calls : List Call) (s : SpellingFeed) → s.finished ≡ true → IsHistory s calls → fed_bytes calls ≡ []
 nothing_fed [] s f h = refl
 nothing_fed (Piece piece ∷ calls) s f h = let clash = sym f ∙ h.0 in cc
 nothing_fed (Finish ∷ calls) s f h = nothing_fed calls (record s { finished = true }) refl h
@@ -100,11 +100,11 @@ nothing_fed (Answer r ∷ calls) s f (new, next, h) = nothing_fed calls new (sta
 abbrev ended : List Call → Result Fed EtfFault → List Call
 ended before answer = before ++ (Answer answer ∷ [])
 
-answers_fault : (s new : FeedState) (r : Result Fed EtfFault) (fault : EtfFault) → s.fault ≡ Some fault → IsNext s new r
+answers_fault : (s new : SpellingFeed) (r : Result Fed EtfFault) (fault : EtfFault) → s.fault ≡ Some fault → IsNext s new r
     → (r ≡ Err fault) × (new ≡ s)
 answers_fault s new r fault came next = subst (λ f. gives_behind f s new r) came next
 
-behind_fault : (before : List Call) (answer : Result Fed EtfFault) (s : FeedState) (fault : EtfFault) → s.fault ≡ Some fault
+behind_fault : (before : List Call) (answer : Result Fed EtfFault) (s : SpellingFeed) (fault : EtfFault) → s.fault ≡ Some fault
     → IsHistory s (ended before answer) → (answered_terms (ended before answer) ≡ []) × (answer ≡ Err fault)
 behind_fault [] answer s fault came (new, next, h) =
     let again = answers_fault s new answer fault came next in
@@ -114,15 +114,15 @@ behind_fault (Piece piece ∷ before) answer s fault came h =
 behind_fault (Finish ∷ before) answer s fault came h = behind_fault before answer (record s { finished = true }) fault came h
 behind_fault (Answer r ∷ before) answer s fault came (new, next, h) =
     let again = answers_fault s new r fault came next in
-    let rest = behind_fault before answer new fault (ap (λ (n : FeedState). n.fault) again.1 ∙ came) h in
+    let rest = behind_fault before answer new fault (ap (λ (n : SpellingFeed). n.fault) again.1 ∙ came) h in
     (ap (λ r. answered_terms (Answer r ∷ ended before answer)) again.0 ∙ rest.0, rest.1)
 
 -- ---- what the stream gives, from a state without a fault on
 
-abbrev GivesOf : FeedState → List Call → Result Fed EtfFault → List ℕ → Type 0
+abbrev GivesOf : SpellingFeed → List Call → Result Fed EtfFault → List ℕ → Type 0
 GivesOf s calls answer rest = StreamGives s.offset (s.left ++ (fed_bytes calls ++ rest)) (answered_terms calls) answer
 
-answers_anew : (s new : FeedState) (r : Result Fed EtfFault) → s.fault ≡ None → IsNext s new r → Gives s new r
+answers_anew : (s new : SpellingFeed) (r : Result Fed EtfFault) → s.fault ≡ None → IsNext s new r → Gives s new r
 answers_anew s new r none next = subst (λ f. gives_behind f s new r) none next
 
 no_term : (answer : Result Fed EtfFault) → IsLast answer → answered_terms (Answer answer ∷ []) ≡ []
@@ -130,13 +130,13 @@ no_term (Ok End) is = refl
 no_term (Ok other) is = absurd is
 no_term (Err fault) is = refl
 
-gives_last : (s new : FeedState) (answer : Result Fed EtfFault) (rest : List ℕ) → IsLast answer
+gives_last : (s new : SpellingFeed) (answer : Result Fed EtfFault) (rest : List ℕ) → IsLast answer
     → (s.finished ≡ true → rest ≡ []) → Gives s new answer → GivesOf s (Answer answer ∷ []) answer rest
 gives_last s new answer rest is last h =
     subst (λ ts. StreamGives s.offset (s.left ++ rest) ts answer) (sym (no_term answer is))
     (last_stays s new answer rest is last h)
 
-gives_fault : (before : List Call) (answer : Result Fed EtfFault) (rest : List ℕ) (s new : FeedState) (fault : EtfFault)
+gives_fault : (before : List Call) (answer : Result Fed EtfFault) (rest : List ℕ) (s new : SpellingFeed) (fault : EtfFault)
     → fault ≢ Memory → (s.finished ≡ true → rest ≡ []) → Gives s new (Err fault) → IsHistory new (ended before answer)
     → GivesOf s (ended before answer) answer rest
 gives_fault before answer rest s new fault m last fails h =
@@ -145,18 +145,18 @@ gives_fault before answer rest s new fault m last fails h =
     let kept = keeps_finished s new (Err fault) fails in
     let fed : s.finished ≡ true → fed_bytes calls ≡ [] = λ f. nothing_fed calls new (kept ∙ f) h in
     let stays = fault_stays s new fault more m (λ f. ap₂ (λ xs ys. xs ++ ys) (fed f) (last f)) fails in
-    let behind = behind_fault before answer new fault (ap (λ (n : FeedState). n.fault) stays.1) h in
+    let behind = behind_fault before answer new fault (ap (λ (n : SpellingFeed). n.fault) stays.1) h in
     subst (λ ts. StreamGives s.offset (s.left ++ more) ts answer) (sym behind.0)
     (subst (EndsWith s.offset (s.left ++ more)) (sym behind.1) stays.0)
 
-gives_piece : (calls : List Call) (answer : Result Fed EtfFault) (rest : List ℕ) (s : FeedState) (piece : List ℕ)
+gives_piece : (calls : List Call) (answer : Result Fed EtfFault) (rest : List ℕ) (s : SpellingFeed) (piece : List ℕ)
     → GivesOf (record s { left = s.left ++ piece }) calls answer rest → GivesOf s (Piece piece ∷ calls) answer rest
 gives_piece calls answer rest s piece h =
     let fed = fed_bytes calls in
     subst (λ bytes. StreamGives s.offset bytes (answered_terms calls) answer)
     (append_assoc s.left piece (fed ++ rest) ∙ ap (λ l. s.left ++ l) (sym (append_assoc piece fed rest))) h
 
-gives_term : (calls : List Call) (answer : Result Fed EtfFault) (rest : List ℕ) (s : FeedState) (t : TermValue) (count : ℕ)
+gives_term : (calls : List Call) (answer : Result Fed EtfFault) (rest : List ℕ) (s : SpellingFeed) (t : TermValue) (count : ℕ)
     → IsFront spelling (take longest s.left) t count → GivesOf (passed s count) calls answer rest
     → GivesOf s (Answer (Ok (Term t)) ∷ calls) answer rest
 gives_term calls answer rest s t count front h =
@@ -167,7 +167,7 @@ gives_term calls answer rest s t count front h =
       subst (λ bytes. StreamGives (s.offset + count) bytes (answered_terms calls) answer) (sym same) h,
     )
 
-gives_on : (before : List Call) (answer : Result Fed EtfFault) (rest : List ℕ) (s : FeedState) → IsLast answer
+gives_on : (before : List Call) (answer : Result Fed EtfFault) (rest : List ℕ) (s : SpellingFeed) → IsLast answer
     → s.fault ≡ None → (s.finished ≡ true → rest ≡ []) → (is_finished (ended before answer) ≡ true → rest ≡ [])
     → IsHistory s (ended before answer) → GivesOf s (ended before answer) answer rest
 gives_on [] answer rest s is none last done (new, next, h) =

@@ -8,7 +8,7 @@ use Rattle.etf_model.specs.declared.fed.Fed.{Fed}
 use Rattle.etf_model.specs.declared.fed.Fed.TheVariants.{Term, Again, End}
 use Rattle.etf_model.specs.Answers.{IsFront}
 use Rattle.etf_model.specs.Fronts.{Begins}
-use Rattle.etf_model.specs.FeedState.{FeedState, longest, front_of, passed, failed}
+use Rattle.etf_model.specs.SpellingFeed.{SpellingFeed, longest, front_of, passed, failed}
 use Rattle.etf_model.specs.Format.{Reading}
 use Rattle.etf_model.specs.History.{EndsWith, StreamGives}
 use Rattle.etf_model.specs.Next.{Gives, gives_behind, IsNext}
@@ -19,23 +19,23 @@ use Rattle.etf_model.specs.SpellingExact.{spelling-exact}
 
 -- an answer and the state behind it
 abbrev Told : Type 0
-Told = Result Fed EtfFault × FeedState
+Told = Result Fed EtfFault × SpellingFeed
 
-abbrev pair : Result Fed EtfFault → FeedState → Told
+abbrev pair : Result Fed EtfFault → SpellingFeed → Told
 pair r s = (r, s)
 
-abbrev broke : FeedState → EtfFault → Told
+abbrev broke : SpellingFeed → EtfFault → Told
 broke s fault = pair (Err fault) (failed s fault)
 
 -- what is answered to a part, by whether it is shorter than 2 ^ 24 bytes and whether the input is finished
-abbrev at_part : FeedState → (few finished : Bool) → List ℕ → Told
+abbrev at_part : SpellingFeed → (few finished : Bool) → List ℕ → Told
 at_part s false finished left = broke s (LongTerm s.offset)
 at_part s true false left = pair (Ok Again) s
 at_part s true true [] = pair (Ok End) s
 at_part s true true (x ∷ left) = broke s Short
 
 -- what is answered by what reading the front answers
-abbrev told : FeedState → Reading TermValue → Told
+abbrev told : SpellingFeed → Reading TermValue → Told
 told s (Ok r) = pair (Ok (Term r.0)) (passed s (r.1.offset - s.offset))
 told s (Err Short) = at_part s (ltb (length s.left) longest) s.finished s.left
 told s (Err fault) = broke s fault
@@ -43,12 +43,12 @@ told s (Err fault) = broke s fault
 abbrev read_from : ℕ → List ℕ → Reading TermValue
 read_from start bytes = spelling.read start (record { offset = start; left = bytes })
 
-abbrev told_of : FeedState → Told
+abbrev told_of : SpellingFeed → Told
 told_of s = told s (read_from s.offset (front_of s))
 
 -- ---- each answer is the one that reading tells
 
-told_term : (s : FeedState) (t : TermValue) (count : ℕ) → IsFront spelling (front_of s) t count
+told_term : (s : SpellingFeed) (t : TermValue) (count : ℕ) → IsFront spelling (front_of s) t count
     → told_of s ≡ pair (Ok (Term t)) (passed s count)
 told_term s t count front =
     let before = take count (front_of s) in
@@ -59,37 +59,37 @@ told_term s t count front =
     ∙ ap (λ n. pair (Ok (Term t)) (passed s n)) long
 
 -- a break, of whose fault this is told
-told_break : (s : FeedState) (fault : EtfFault) → told s (Err fault) ≡ broke s fault
+told_break : (s : SpellingFeed) (fault : EtfFault) → told s (Err fault) ≡ broke s fault
     → Begins (λ front. IsBreak s.offset front fault) (front_of s) → told_of s ≡ broke s fault
 told_break s fault same b =
     ap (λ bytes. told s (read_from s.offset bytes)) b.whole
     ∙ ap (told s) (spelling-exact.break_read s.offset s.offset b.front b.rest fault b.holds) ∙ same
 
-told_part : (s : FeedState) → IsPart (front_of s) → told_of s ≡ at_part s (ltb (length s.left) longest) s.finished s.left
+told_part : (s : SpellingFeed) → IsPart (front_of s) → told_of s ≡ at_part s (ltb (length s.left) longest) s.finished s.left
 told_part s p = ap (told s) (spelling-exact.part_read s.offset s.offset (front_of s) p)
 
-told_long : (s : FeedState) → longest ≤ length s.left → IsPart (front_of s) → told_of s ≡ broke s (LongTerm s.offset)
+told_long : (s : SpellingFeed) → longest ≤ length s.left → IsPart (front_of s) → told_of s ≡ broke s (LongTerm s.offset)
 told_long s long p = told_part s p ∙ ap (λ few. at_part s few s.finished s.left) (le-ltb (length s.left) longest long)
 
-told_few : (s : FeedState) (finished : Bool) → s.finished ≡ finished → length s.left < longest → IsPart s.left
+told_few : (s : SpellingFeed) (finished : Bool) → s.finished ≡ finished → length s.left < longest → IsPart s.left
     → told_of s ≡ at_part s true finished s.left
 told_few s finished f few p =
     told_part s (subst IsPart (sym (take_all longest s.left (omega (arith, few)))) p)
     ∙ ap₂ (λ b c. at_part s b c s.left) (lt-ltb (length s.left) longest few) f
 
-told_short : (s : FeedState) (left : List ℕ) → left ≢ [] → at_part s true true left ≡ broke s Short
+told_short : (s : SpellingFeed) (left : List ℕ) → left ≢ [] → at_part s true true left ≡ broke s Short
 told_short s [] some = absurd (some refl)
 told_short s (x ∷ left) some = refl
 
 no_bytes_are_part : IsPart []
 no_bytes_are_part = spelling-exact.read_part 0 (record { offset = 0; left = [] }) refl
 
-told_end : (s : FeedState) → s.finished ≡ true → s.left ≡ [] → told_of s ≡ pair (Ok End) s
+told_end : (s : SpellingFeed) → s.finished ≡ true → s.left ≡ [] → told_of s ≡ pair (Ok End) s
 told_end s f none =
     let few : length s.left < longest = omega (arith, ap length none) in
     told_few s true f few (subst IsPart (sym none) no_bytes_are_part) ∙ ap (at_part s true true) none
 
-settled : (s new : FeedState) (r : Result Fed EtfFault) → Gives s new r → r ≢ Err Memory → told_of s ≡ pair r new
+settled : (s new : SpellingFeed) (r : Result Fed EtfFault) → Gives s new r → r ≢ Err Memory → told_of s ≡ pair r new
 settled s new (Ok (Term t)) (count, front, e) m = told_term s t count front ∙ ap (pair (Ok (Term t))) (sym e)
 settled s new (Ok Again) (f, few, p, e) m = told_few s false f few p ∙ ap (pair (Ok Again)) (sym e)
 settled s new (Ok End) (f, none, e) m = told_end s f none ∙ ap (pair (Ok End)) (sym e)
@@ -102,33 +102,33 @@ settled s new (Err fault) h m = told_break s fault refl h.0 ∙ ap (pair (Err fa
 
 -- ---- a feed has one answer
 
-answer_behind : (came : Option EtfFault) (s a b : FeedState) (r q : Result Fed EtfFault)
+answer_behind : (came : Option EtfFault) (s a b : SpellingFeed) (r q : Result Fed EtfFault)
     → gives_behind came s a r → gives_behind came s b q → r ≢ Err Memory → q ≢ Err Memory → (r ≡ q) × (a ≡ b)
 answer_behind None s a b r q h k m n =
     let same : pair r a ≡ pair q b = sym (settled s a r h m) ∙ settled s b q k n in
     (ap (λ (p : Told). p.0) same, ap (λ (p : Told). p.1) same)
 answer_behind (Some fault) s a b r q h k m n = (h.0 ∙ sym k.0, h.1 ∙ sym k.1)
 
-pub one_answer : (s a b : FeedState) (r q : Result Fed EtfFault)
+pub one_answer : (s a b : SpellingFeed) (r q : Result Fed EtfFault)
     → IsNext s a r → IsNext s b q → r ≢ Err Memory → q ≢ Err Memory → (r ≡ q) × (a ≡ b)
 one_answer s a b r q h k m n = answer_behind s.fault s a b r q h k m n
 
 -- ---- a stream gives one list of terms
 
 -- a feed of which all these bytes were fed
-abbrev whole_feed : ℕ → List ℕ → FeedState
+abbrev whole_feed : ℕ → List ℕ → SpellingFeed
 whole_feed start bytes = record { left = bytes; offset = start; finished = true; fault = None }
 
 -- what such a feed answers, want of memory aside
-record Next (s : FeedState) (r : Result Fed EtfFault) : Type 0 where
-  new : FeedState
+record Next (s : SpellingFeed) (r : Result Fed EtfFault) : Type 0 where
+  new : SpellingFeed
   next : IsNext s new r
   remembers : r ≢ Err Memory
 
-same_next : (s : FeedState) (r q : Result Fed EtfFault) → Next s r → Next s q → r ≡ q
+same_next : (s : SpellingFeed) (r q : Result Fed EtfFault) → Next s r → Next s q → r ≡ q
 same_next s r q a b = (one_answer s a.new b.new r q a.next b.next a.remembers b.remembers).0
 
-fault_next : (s : FeedState) (fault : EtfFault) → IsNext s (failed s fault) (Err fault) → fault ≢ Memory → Next s (Err fault)
+fault_next : (s : SpellingFeed) (fault : EtfFault) → IsNext s (failed s fault) (Err fault) → fault ≢ Memory → Next s (Err fault)
 fault_next s fault next m =
     record { new = failed s fault; next = next; remembers = λ e. let same : fault ≡ Memory = cc in m same }
 
@@ -169,7 +169,7 @@ same_first bytes t u count other f g =
     let b : IsNext s (passed s other) (Ok (Term u)) = (other, g, refl) in
     let same = one_answer s (passed s count) (passed s other) (Ok (Term t)) (Ok (Term u)) a b (λ m. cc) (λ m. cc) in
     let answers : ◌≡◌ {A = Result Fed EtfFault} (Ok (Term t)) (Ok (Term u)) = same.0 in
-    (cc, omega (arith, ap (λ (new : FeedState). new.offset) same.1))
+    (cc, omega (arith, ap (λ (new : SpellingFeed). new.offset) same.1))
 
 pub one_list : (start : ℕ) (bytes : List ℕ) (ts us : List TermValue) (r q : Result Fed EtfFault)
     → StreamGives start bytes ts r → StreamGives start bytes us q → (ts ≡ us) × (r ≡ q)

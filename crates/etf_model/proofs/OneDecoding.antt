@@ -5,6 +5,7 @@ use Rattle.dets_term.specs.IsTerm.{IsTerm}
 use Rattle.dets_term.specs.TermValue.{TermValue}
 use Rattle.etf_model.specs.declared.fault.EtfFault.{EtfFault}
 use Rattle.etf_model.specs.declared.fault.EtfFault.TheVariants.{Short, NotVersion, Unsupported, Compressed, IntegerRange, BadAtom, BadBits, RepeatedKey, Depth, LongTerm, Memory}
+use Rattle.etf_model.specs.declared.tags.TheConstants.{VERSION}
 use Rattle.etf_model.specs.Canonical.{canonical}
 use Rattle.etf_model.specs.Decoding.{IsDecoding}
 use Rattle.etf_model.specs.Fronts.{Begins}
@@ -13,7 +14,7 @@ use Rattle.etf_model.specs.Spelling.{spelling, Spells, IsBreak}
 use Rattle.etf_model.proofs.CanonicalSpells.{canonical_spells}
 use Rattle.etf_model.specs.SpellingExact.{spelling-exact}
 
--- a reading with the offset behind the value in place of the place
+-- a reading with the offset behind the value in place of the position
 abbrev told : Reading TermValue → Result (TermValue × ℕ) EtfFault
 told (Ok r) = Ok (r.0, r.1.offset)
 told (Err fault) = Err fault
@@ -50,6 +51,6 @@ one_decoding bytes r s d e m n = sym (settled bytes r d m) ∙ settled bytes s e
 pub decodes_to_its_term : (t : TermValue) (front rest : List ℕ) (r : Result (TermValue × ℕ) EtfFault) → Spells t front → IsDecoding (front ++ rest) r → r ≢ Err Memory → r ≡ Ok (t, length front)
 decodes_to_its_term t front rest r s d other = sym (settled (front ++ rest) r d other) ∙ spelled_front t front rest s
 
-pub encoding_decodes : (t : TermValue) (rest : List ℕ) (r : Result (TermValue × ℕ) EtfFault) → IsTerm t → IsDecoding ((131 ∷ canonical t) ++ rest) r → r ≢ Err Memory
-    → r ≡ Ok (t, length (131 ∷ canonical t))
-encoding_decodes t rest r term d other = decodes_to_its_term t (131 ∷ canonical t) rest r (canonical_spells t term) d other
+pub encoding_decodes : (t : TermValue) (rest : List ℕ) (r : Result (TermValue × ℕ) EtfFault) → IsTerm t → IsDecoding ((VERSION ∷ canonical t) ++ rest) r → r ≢ Err Memory
+    → r ≡ Ok (t, length (VERSION ∷ canonical t))
+encoding_decodes t rest r term d other = decodes_to_its_term t (VERSION ∷ canonical t) rest r (canonical_spells t term) d other

@@ -8,7 +8,7 @@ use Rattle.etf_model.specs.declared.fault.EtfFault.TheVariants.{Short, LongTerm,
 use Rattle.etf_model.specs.declared.fed.Fed.{Fed}
 use Rattle.etf_model.specs.declared.fed.Fed.TheVariants.{End}
 use Rattle.etf_model.specs.Answers.{IsFront}
-use Rattle.etf_model.specs.FeedState.{longest}
+use Rattle.etf_model.specs.SpellingFeed.{longest}
 use Rattle.etf_model.specs.Fronts.{Begins}
 use Rattle.etf_model.specs.History.{EndsWith, StreamGives}
 use Rattle.etf_model.specs.Spelling.{spelling, Spells, IsPart, IsBreak}

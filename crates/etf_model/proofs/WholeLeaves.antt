@@ -10,6 +10,7 @@ use Rattle.std.proofs.lemmas.Str.{chars-encodes, is_utf8-from_IsUtf8}
 use Rattle.dets_term.specs.TermValue.{TermValue, integer, atom, bits, is_list}
 use Rattle.dets_term.specs.BitString.{bits_of}
 use Rattle.etf_model.specs.declared.fault.EtfFault.TheVariants.{BadAtom, BadBits}
+use Rattle.etf_model.specs.declared.tags.TheConstants.{SMALL_INTEGER, INTEGER}
 use Rattle.etf_model.specs.Format.{Format, byte, followed, tested, changed, times}
 use Rattle.etf_model.specs.Layout.{is_known, begins_tail, signed_32, signed, limit, characters, is_name, may_use}
 use Rattle.etf_model.specs.Spelling.{number, sized, big_integer, name, binary, bit_binary, body}
@@ -33,7 +34,7 @@ tagged_at part tail levels t bytes cs e w = subst (Tagged part tail levels t) e 
 module _ (part tail : Format TermValue) (levels : ℕ) where
   -- ---- integers
 
-  small : (n : ℕ) → Tagged part tail levels (integer (pos n)) (97 ∷ n ∷ [])
+  small : (n : ℕ) → Tagged part tail levels (integer (pos n)) (SMALL_INTEGER ∷ n ∷ [])
   small n = record {
     tag = 97;
     rest = n ∷ [];
@@ -43,7 +44,7 @@ module _ (part tail : Format TermValue) (levels : ℕ) where
     inside = changed_whole byte (λ x. integer (pos x)) n (n ∷ []) refl;
   }
 
-  word : (n : ℕ) (z : ℤ) → n < 2 ^ 32 → signed_32 n ≡ z → Tagged part tail levels (integer z) (head 98 4 n)
+  word : (n : ℕ) (z : ℤ) → n < 2 ^ 32 → signed_32 n ≡ z → Tagged part tail levels (integer z) (head INTEGER 4 n)
   word n z h e = record {
     tag = 98;
     rest = bytes_high_first 4 n;

@@ -15,6 +15,7 @@ use Rattle.dets_term.specs.Pairs.{keys, placed}
 use Rattle.dets_term.specs.Parts.{deepest, deepest_of_pairs}
 use Rattle.dets_term.specs.PairSorts.{all_above}
 use Rattle.etf_model.specs.declared.fault.EtfFault.TheVariants.{RepeatedKey}
+use Rattle.etf_model.specs.declared.tags.TheConstants.{STRING, LIST, MAP}
 use Rattle.etf_model.specs.Format.{Format, byte, followed, tested, framed, changed, times, either}
 use Rattle.etf_model.specs.Layout.{integers}
 use Rattle.etf_model.specs.Spelling.{may_have_parts, count, tuple_of, no_tail, pairs_after}
@@ -107,7 +108,7 @@ module _ (part tail : Format TermValue) (levels : ℕ) where
       (cases_lt n 256)
 
   pub string_tagged : (ts : List TermValue) (t : TermValue) → chain ts nil ≡ t → is_list t ≡ true → length ts ≤ 65535 → list_all is_byte ts ≡ true → MayCount (may_have_parts levels) (length ts)
-      → Tagged part tail levels t (head 107 2 (length ts) ++ map byte_value ts)
+      → Tagged part tail levels t (head STRING 2 (length ts) ++ map byte_value ts)
   string_tagged ts t e is fits all may =
       let n = length ts in
       let bytes = map byte_value ts in
@@ -124,7 +125,7 @@ module _ (part tail : Format TermValue) (levels : ℕ) where
       }
 
   pub list_tagged : (ts : List TermValue) (end t : TermValue) (ending : List ℕ) → chain ts end ≡ t → is_list t ≡ true → 0 < length ts → length ts < 2 ^ 32 → MayCount (may_have_parts levels) (length ts)
-      → AllByRecursion IsPart ts → tail.Whole end ending → Tagged part tail levels t (head 108 4 (length ts) ++ (flat_map canonical ts ++ ending))
+      → AllByRecursion IsPart ts → tail.Whole end ending → Tagged part tail levels t (head LIST 4 (length ts) ++ (flat_map canonical ts ++ ending))
   list_tagged ts end t ending e is some fits may all last =
       let n = length ts in
       let other : (n == 0) ≡ false = ne_eqb n 0 (λ z. omega arith) in
@@ -165,7 +166,7 @@ module _ (part tail : Format TermValue) (levels : ℕ) where
       (subst (λ qs. (pairs_after part qs (length ps)).Whole ((seen ++ p ∷ []) ++ ps) (flat_map spelled_pair ps)) (sym last) rest))))
 
   pub map_tagged : (ps : List (TermValue × TermValue)) → length ps < 2 ^ 32 → MayCount (may_have_parts levels) (length ps) → AreAscending (keys ps) → AllByRecursion (λ p. IsPart p.0 × IsPart p.1) ps
-      → Tagged part tail levels (map_of ps) (head 116 4 (length ps) ++ flat_map spelled_pair ps)
+      → Tagged part tail levels (map_of ps) (head MAP 4 (length ps) ++ flat_map spelled_pair ps)
   map_tagged ps fits may up all =
       let n = length ps in
       record {

@@ -5,6 +5,7 @@ use Rattle.std.specs.List.{concat, flat_map, zip, list_all}
 use Rattle.std.specs.Int.{bytes_high_first}
 use Rattle.std.specs.Str.{encode_utf8_all}
 use Rattle.dets_term.specs.TermValue.{TermValue, integer, atom, tuple, mapping, nil, cons, bits, elements}
+use Rattle.etf_model.specs.declared.tags.TheConstants.{SMALL_INTEGER, INTEGER, SMALL_BIG, ATOM_UTF8, SMALL_ATOM_UTF8, SMALL_TUPLE, LARGE_TUPLE, NIL, STRING, LIST, BINARY, BIT_BINARY, MAP}
 
 -- ---- numbers and bytes
 
@@ -23,20 +24,20 @@ magnitude_bytes m = low_bytes 16 m
 
 -- ---- terms without parts
 
--- a sign and a magnitude, SMALL_BIG_EXT: the sign is 0, or 1 where the integer is negative
+-- a sign and a magnitude, SMALL_BIG: the sign is 0, or 1 where the integer is negative
 abbrev pub big_spelling : ℕ → ℕ → List ℕ
-big_spelling sign m = 110 ∷ length (magnitude_bytes m) ∷ sign ∷ magnitude_bytes m
+big_spelling sign m = SMALL_BIG ∷ length (magnitude_bytes m) ∷ sign ∷ magnitude_bytes m
 
--- SMALL_INTEGER_EXT for a byte, INTEGER_EXT for the other numbers of 32 bits in two's complement
+-- SMALL_INTEGER for a byte, INTEGER for the other numbers of 32 bits in two's complement
 abbrev pub integer_spelling : ℤ → List ℕ
 integer_spelling (pos n) =
-    cond (nat_le n 255) (97 ∷ n ∷ []) (cond (nat_lt n (2 ^ 31)) (head 98 4 n) (big_spelling 0 n))
+    cond (nat_le n 255) (SMALL_INTEGER ∷ n ∷ []) (cond (nat_lt n (2 ^ 31)) (head INTEGER 4 n) (big_spelling 0 n))
 integer_spelling (negsuc n) =
-    cond (nat_lt n (2 ^ 31)) (head 98 4 (2 ^ 32 - suc n)) (big_spelling 1 (suc n))
+    cond (nat_lt n (2 ^ 31)) (head INTEGER 4 (2 ^ 32 - suc n)) (big_spelling 1 (suc n))
 
--- SMALL_ATOM_UTF8_EXT, and ATOM_UTF8_EXT above 255 bytes
+-- SMALL_ATOM_UTF8, and ATOM_UTF8 above 255 bytes
 abbrev pub text_head : ℕ → List ℕ
-text_head n = cond (nat_le n 255) (head 119 1 n) (head 118 2 n)
+text_head n = cond (nat_le n 255) (head SMALL_ATOM_UTF8 1 n) (head ATOM_UTF8 2 n)
 
 -- an atom in UTF-8
 abbrev pub text_spelling : List ℕ → List ℕ
@@ -57,24 +58,24 @@ packed [] = []
 packed (a ∷ b ∷ c ∷ d ∷ e ∷ f ∷ g ∷ h ∷ rest) = high_bits 8 (a ∷ b ∷ c ∷ d ∷ e ∷ f ∷ g ∷ h ∷ []) ∷ packed rest
 packed fewer = high_bits 8 fewer ∷ []
 
--- BINARY_EXT for whole bytes; else BIT_BINARY_EXT, whose number of used bits stands behind the length
+-- BINARY for whole bytes; else BIT_BINARY, whose number of used bits stands behind the length
 abbrev pub bits_spelling : List Bool → List ℕ
 bits_spelling bs =
-    cond (length bs % 8 == 0) (head 109 4 (length (packed bs)) ++ packed bs)
-    (head 77 4 (length (packed bs)) ++ (length bs % 8 ∷ packed bs))
+    cond (length bs % 8 == 0) (head BINARY 4 (length (packed bs)) ++ packed bs)
+    (head BIT_BINARY 4 (length (packed bs)) ++ (length bs % 8 ∷ packed bs))
 
 -- ---- terms with parts, of the spellings of these
 
--- SMALL_TUPLE_EXT, and LARGE_TUPLE_EXT above 255 elements
+-- SMALL_TUPLE, and LARGE_TUPLE above 255 elements
 abbrev pub tuple_head : ℕ → List ℕ
-tuple_head n = cond (nat_le n 255) (head 104 1 n) (head 105 4 n)
+tuple_head n = cond (nat_le n 255) (head SMALL_TUPLE 1 n) (head LARGE_TUPLE 4 n)
 
 abbrev pub tuple_spelling : List (List ℕ) → List ℕ
 tuple_spelling parts = tuple_head (length parts) ++ concat parts
 
--- MAP_EXT: each key before its value, in their order
+-- MAP: each key before its value, in their order
 abbrev pub map_spelling : List (List ℕ) → List (List ℕ) → List ℕ
-map_spelling keys values = head 116 4 (length keys) ++ flat_map (λ p. p.0 ++ p.1) (zip keys values)
+map_spelling keys values = head MAP 4 (length keys) ++ flat_map (λ p. p.0 ++ p.1) (zip keys values)
 
 -- a list that ends in the empty one
 abbrev pub is_proper : TermValue → Bool
@@ -96,11 +97,11 @@ byte_value other = 0
 abbrev pub are_bytes : List TermValue → Bool
 are_bytes ts = nat_le (length ts) 65535 && list_all is_byte ts
 
--- STRING_EXT for a proper list of bytes; else LIST_EXT, with what it ends in behind its elements
+-- STRING for a proper list of bytes; else LIST, with what it ends in behind its elements
 abbrev pub list_spelling : TermValue → List (List ℕ) → List ℕ → List ℕ
 list_spelling ts parts end =
-    cond (is_proper ts && are_bytes (elements ts)) (head 107 2 (length (elements ts)) ++ map byte_value (elements ts))
-    (head 108 4 (length parts) ++ (concat parts ++ end))
+    cond (is_proper ts && are_bytes (elements ts)) (head STRING 2 (length (elements ts)) ++ map byte_value (elements ts))
+    (head LIST 4 (length parts) ++ (concat parts ++ end))
 
 abbrev mutual
   -- the canonical spelling of a term, without the byte 131 in front
@@ -109,7 +110,7 @@ abbrev mutual
   canonical (atom name) = atom_spelling name
   canonical (tuple parts) = tuple_spelling (canonical_each parts)
   canonical (mapping keys values) = map_spelling (canonical_each keys) (canonical_each values)
-  canonical nil = 106 ∷ []
+  canonical nil = NIL ∷ []
   canonical (cons first rest) = list_spelling (cons first rest) (canonical first ∷ canonical_each rest) (canonical_end rest)
   canonical (bits bs) = bits_spelling bs
 
@@ -118,12 +119,12 @@ abbrev mutual
   canonical_each (cons first rest) = canonical first ∷ canonical_each rest
   canonical_each other = []
 
-  -- the spelling of what a list ends in: NIL_EXT, or the tail of an improper one
+  -- the spelling of what a list ends in: NIL, or the tail of an improper one
   pub canonical_end : TermValue → List ℕ
   canonical_end (integer z) = integer_spelling z
   canonical_end (atom name) = atom_spelling name
   canonical_end (tuple parts) = tuple_spelling (canonical_each parts)
   canonical_end (mapping keys values) = map_spelling (canonical_each keys) (canonical_each values)
-  canonical_end nil = 106 ∷ []
+  canonical_end nil = NIL ∷ []
   canonical_end (cons first rest) = canonical_end rest
   canonical_end (bits bs) = bits_spelling bs

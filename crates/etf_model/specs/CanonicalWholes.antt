@@ -13,6 +13,7 @@ use Rattle.std.proofs.Common.{◌≡◌, ℕ, zero, suc, ◌+◌, ◌*◌, ◌/�
 use Rattle.std.proofs.lemmas.Bool.{cond-false, ne_eqb}
 use Rattle.dets_term.specs.TermValue.{TermValue, integer, atom, tuple, mapping, nil, cons, bits, chain, map_of, is_list}
 use Rattle.dets_term.specs.TermValue.{TermValue}
+use Rattle.etf_model.specs.declared.tags.TheConstants.{MAP}
 use Rattle.etf_model.specs.Canonical.{canonical, canonical_each, canonical_end, head, tuple_head}
 use Rattle.etf_model.specs.Canonical.{low_bytes}
 
@@ -76,8 +77,8 @@ pairs-in_turn : (ps : List (TermValue × TermValue)) →
 pairs-in_turn [] = refl
 pairs-in_turn (p ∷ ps) = ap (λ bytes. canonical p.0 ++ canonical p.1 ++ bytes) (pairs-in_turn ps)
 
-pub canonical-map : (ps : List (TermValue × TermValue)) → canonical (map_of ps) ≡ head 116 4 (length ps) ++ flat_map (λ p. canonical p.0 ++ canonical p.1) ps
+pub canonical-map : (ps : List (TermValue × TermValue)) → canonical (map_of ps) ≡ head MAP 4 (length ps) ++ flat_map (λ p. canonical p.0 ++ canonical p.1) ps
 canonical-map ps =
-    ap (λ n. head 116 4 n ++ flat_map (λ p. p.0 ++ p.1) (zip (canonical_each (chain (map (λ p. p.0) ps) nil)) (canonical_each (chain (map (λ p. p.1) ps) nil))))
+    ap (λ n. head MAP 4 n ++ flat_map (λ p. p.0 ++ p.1) (zip (canonical_each (chain (map (λ p. p.0) ps) nil)) (canonical_each (chain (map (λ p. p.1) ps) nil))))
     (length-canonical_each (map (λ p. p.0) ps) nil refl ∙ length-map ps (λ p. p.0))
-    ∙ ap (λ bytes. head 116 4 (length ps) ++ bytes) (pairs-in_turn ps)
+    ∙ ap (λ bytes. head MAP 4 (length ps) ++ bytes) (pairs-in_turn ps)

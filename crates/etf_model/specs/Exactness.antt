@@ -2,25 +2,25 @@
 use Rattle.std.proofs.Common.{◌≡◌, ◌≢◌, ℕ, ◌+◌, Bool, true, false, List, [], ◌∷◌, ◌++◌, length, length-append, Ok, Err, inl, inr, refl, ap, ◌∙◌, sym, subst, append_assoc, arith}
 use Rattle.etf_model.specs.declared.fault.EtfFault.{EtfFault}
 use Rattle.etf_model.specs.declared.fault.EtfFault.TheVariants.{Short}
-use Rattle.etf_model.specs.Format.{Place, Reading, Format, first_byte, byte, give, go_on, followed, judged, tested, framed}
+use Rattle.etf_model.specs.Format.{Position, Reading, Format, first_byte, byte, give, go_on, followed, judged, tested, framed}
 use Rattle.etf_model.specs.Exact.{Between, IsExact}
 use Rattle.etf_model.specs.Fronts.{Begins}
 use Rattle.etf_model.specs.Kept.{IsKept}
 
--- one answer is of one value and one place
-pub same_answer : {A : Type 0} (x y : A) (p q : Place) → ◌≡◌ {A = Reading A} (Ok (x, p)) (Ok (y, q)) → (x ≡ y) × (p ≡ q)
+-- one answer is of one value and one position
+pub same_answer : {A : Type 0} (x y : A) (p q : Position) → ◌≡◌ {A = Reading A} (Ok (x, p)) (Ok (y, q)) → (x ≡ y) × (p ≡ q)
 same_answer {A} x y p q e =
-    let pairs : ◌≡◌ {A = A × Place} (x, p) (y, q) = cc in
+    let pairs : ◌≡◌ {A = A × Position} (x, p) (y, q) = cc in
     (ap (λ r. r.0) pairs, ap (λ r. r.1) pairs)
 
 -- ---- one byte and none
 
-byte_whole : (here : ℕ) (left : List ℕ) (x : ℕ) (behind : Place) → first_byte here left ≡ Ok (x, behind)
+byte_whole : (here : ℕ) (left : List ℕ) (x : ℕ) (behind : Position) → first_byte here left ≡ Ok (x, behind)
     → Between (λ bytes. bytes ≡ x ∷ []) (record { offset = here; left = left }) behind
 byte_whole here [] x behind e = cc
 byte_whole here (y ∷ rest) x behind e =
     let same = same_answer y x (record { offset = here + 1; left = rest }) behind e in
-    subst (λ (p : Place). Between (λ bytes. bytes ≡ x ∷ []) (record { offset = here; left = y ∷ rest }) p) same.1
+    subst (λ (p : Position). Between (λ bytes. bytes ≡ x ∷ []) (record { offset = here; left = y ∷ rest }) p) same.1
     (record { front = y ∷ []; holds = ap (λ z. z ∷ []) same.0; bytes = refl; offset = refl })
 
 byte_part : (here : ℕ) (left : List ℕ) → first_byte here left ≡ Err Short → left ≡ []
@@ -33,9 +33,9 @@ byte_break here (y ∷ rest) fault e other = cc
 
 pub byte-exact : IsExact byte
 byte-exact = record {
-  read_whole = λ term place x behind e. byte_whole place.offset place.left x behind e;
-  read_part = λ term place e. byte_part place.offset place.left e;
-  read_break = λ term place fault e other. absurd (byte_break place.offset place.left fault e other);
+  read_whole = λ term position x behind e. byte_whole position.offset position.left x behind e;
+  read_part = λ term position e. byte_part position.offset position.left e;
+  read_break = λ term position fault e other. absurd (byte_break position.offset position.left fault e other);
   whole_read = λ term here x front rest e. rw e;
   part_read = λ term here bytes e. rw e;
   break_read = λ term here front rest fault e. absurd e;
@@ -44,16 +44,16 @@ byte-exact = record {
 
 pub give-exact : {A : Type 0} (value : A) → IsExact (give value)
 give-exact {A} value = record {
-  read_whole = λ term place x behind e.
-      let same = same_answer value x place behind e in
+  read_whole = λ term position x behind e.
+      let same = same_answer value x position behind e in
       record {
         front = [];
         holds = (sym same.0, refl);
-        bytes = ap (λ (p : Place). p.left) same.1;
-        offset = ap (λ (p : Place). p.offset) (sym same.1) ∙ (let none : place.offset ≡ place.offset + 0 = omega arith in none);
+        bytes = ap (λ (p : Position). p.left) same.1;
+        offset = ap (λ (p : Position). p.offset) (sym same.1) ∙ (let none : position.offset ≡ position.offset + 0 = omega arith in none);
       };
-  read_part = λ term place e. let clash : ⊥ = cc in absurd clash;
-  read_break = λ term place fault e other. let clash : ⊥ = cc in absurd clash;
+  read_part = λ term position e. let clash : ⊥ = cc in absurd clash;
+  read_break = λ term position fault e other. let clash : ⊥ = cc in absurd clash;
   whole_read = λ term here x front rest h.
       let e : here ≡ here + 0 = omega arith in
       rw (h.1, h.0) (ap (λ (n : ℕ). Ok (value, record { offset = n; left = rest })) e);
@@ -66,14 +66,14 @@ give-exact {A} value = record {
 
 module _ {A B : Type 0} (F : Format A) (G : A → Format B) (f : IsExact F) (g : (x : A) (front : List ℕ) → F.Whole x front → IsExact (G x)) where
   -- how the second reads behind the first
-  abbrev behind_first : ℕ → A → Place → Reading B
+  abbrev behind_first : ℕ → A → Position → Reading B
   behind_first term x behind = (G x).read term behind
 
-  followed_whole : (term : ℕ) (place : Place) (y : B) (behind : Place) (r : Reading A) → F.read term place ≡ r
-      → go_on r (behind_first term) ≡ Ok (y, behind) → Between ((followed F G).Whole y) place behind
-  followed_whole term place y behind (Err fault) e h = cc
-  followed_whole term place y behind (Ok (x, mid)) e h =
-      let first = f.read_whole term place x mid e in
+  followed_whole : (term : ℕ) (position : Position) (y : B) (behind : Position) (r : Reading A) → F.read term position ≡ r
+      → go_on r (behind_first term) ≡ Ok (y, behind) → Between ((followed F G).Whole y) position behind
+  followed_whole term position y behind (Err fault) e h = cc
+  followed_whole term position y behind (Ok (x, mid)) e h =
+      let first = f.read_whole term position x mid e in
       let second = (g x first.front first.holds).read_whole term mid y behind h in
       record {
         front = first.front ++ second.front;
@@ -82,21 +82,21 @@ module _ {A B : Type 0} (F : Format A) (G : A → Format B) (f : IsExact F) (g :
         offset = omega (arith, first.offset, second.offset, length-append first.front second.front);
       }
 
-  followed_part : (term : ℕ) (place : Place) (r : Reading A) → F.read term place ≡ r
-      → go_on r (behind_first term) ≡ Err Short → (followed F G).Part place.left
-  followed_part term place (Err fault) e h = let same : fault ≡ Short = cc in inl (f.read_part term place (e ∙ ap Err same))
-  followed_part term place (Ok (x, mid)) e h =
-      let first = f.read_whole term place x mid e in
+  followed_part : (term : ℕ) (position : Position) (r : Reading A) → F.read term position ≡ r
+      → go_on r (behind_first term) ≡ Err Short → (followed F G).Part position.left
+  followed_part term position (Err fault) e h = let same : fault ≡ Short = cc in inl (f.read_part term position (e ∙ ap Err same))
+  followed_part term position (Ok (x, mid)) e h =
+      let first = f.read_whole term position x mid e in
       inr (record { value = x; front = first.front; rest = mid.left; first = first.holds; second = (g x first.front first.holds).read_part term mid h; whole = first.bytes })
 
-  followed_break : (term : ℕ) (place : Place) (fault : EtfFault) (r : Reading A) → F.read term place ≡ r
-      → go_on r (behind_first term) ≡ Err fault → fault ≢ Short → Begins (λ front. (followed F G).Break term place.offset front fault) place.left
-  followed_break term place fault (Err other) e h more =
+  followed_break : (term : ℕ) (position : Position) (fault : EtfFault) (r : Reading A) → F.read term position ≡ r
+      → go_on r (behind_first term) ≡ Err fault → fault ≢ Short → Begins (λ front. (followed F G).Break term position.offset front fault) position.left
+  followed_break term position fault (Err other) e h more =
       let same : other ≡ fault = cc in
-      let first = f.read_break term place fault (e ∙ ap Err same) more in
+      let first = f.read_break term position fault (e ∙ ap Err same) more in
       record { front = first.front; rest = first.rest; holds = inl first.holds; whole = first.whole }
-  followed_break term place fault (Ok (x, mid)) e h more =
-      let first = f.read_whole term place x mid e in
+  followed_break term position fault (Ok (x, mid)) e h more =
+      let first = f.read_whole term position x mid e in
       let second = (g x first.front first.holds).read_break term mid fault h more in
       record {
         front = first.front ++ second.front;
@@ -139,9 +139,9 @@ module _ {A B : Type 0} (F : Format A) (G : A → Format B) (f : IsExact F) (g :
 
   pub followed-exact : IsExact (followed F G)
   followed-exact = record {
-    read_whole = λ term place y behind e. followed_whole term place y behind (F.read term place) refl e;
-    read_part = λ term place e. followed_part term place (F.read term place) refl e;
-    read_break = λ term place fault e other. followed_break term place fault (F.read term place) refl e other;
+    read_whole = λ term position y behind e. followed_whole term position y behind (F.read term position) refl e;
+    read_part = λ term position e. followed_part term position (F.read term position) refl e;
+    read_break = λ term position fault e other. followed_break term position fault (F.read term position) refl e other;
     whole_read = whole_followed;
     part_read = part_followed;
     break_read = break_followed;
@@ -151,45 +151,45 @@ module _ {A B : Type 0} (F : Format A) (G : A → Format B) (f : IsExact F) (g :
 -- ---- a test
 
 module _ {A : Type 0} (F : Format A) (test : A → Bool) (fault : ℕ → A → EtfFault) (f : IsExact F) (g : (term : ℕ) (x : A) → test x ≡ false → fault term x ≢ Short) where
-  abbrev judge : ℕ → A → Place → Reading A
+  abbrev judge : ℕ → A → Position → Reading A
   judge term x behind = judged (test x) (fault term x) x behind
 
-  judged_whole : (term : ℕ) (place mid : Place) (x y : A) (behind : Place) (b : Bool) → test x ≡ b → Between (F.Whole x) place mid
-      → judged b (fault term x) x mid ≡ Ok (y, behind) → Between ((tested F test fault).Whole y) place behind
-  judged_whole term place mid x y behind false t w h = cc
-  judged_whole term place mid x y behind true t w h =
+  judged_whole : (term : ℕ) (position mid : Position) (x y : A) (behind : Position) (b : Bool) → test x ≡ b → Between (F.Whole x) position mid
+      → judged b (fault term x) x mid ≡ Ok (y, behind) → Between ((tested F test fault).Whole y) position behind
+  judged_whole term position mid x y behind false t w h = cc
+  judged_whole term position mid x y behind true t w h =
       let same = same_answer x y mid behind h in
-      subst (λ (p : Place). Between ((tested F test fault).Whole y) place p) same.1
-      (subst (λ z. Between ((tested F test fault).Whole z) place mid) same.0
+      subst (λ (p : Position). Between ((tested F test fault).Whole y) position p) same.1
+      (subst (λ z. Between ((tested F test fault).Whole z) position mid) same.0
       (record { front = w.front; holds = (w.holds, t); bytes = w.bytes; offset = w.offset }))
 
-  tested_whole : (term : ℕ) (place : Place) (y : A) (behind : Place) (r : Reading A) → F.read term place ≡ r
-      → go_on r (judge term) ≡ Ok (y, behind) → Between ((tested F test fault).Whole y) place behind
-  tested_whole term place y behind (Err other) e h = cc
-  tested_whole term place y behind (Ok (x, mid)) e h = judged_whole term place mid x y behind (test x) refl (f.read_whole term place x mid e) h
+  tested_whole : (term : ℕ) (position : Position) (y : A) (behind : Position) (r : Reading A) → F.read term position ≡ r
+      → go_on r (judge term) ≡ Ok (y, behind) → Between ((tested F test fault).Whole y) position behind
+  tested_whole term position y behind (Err other) e h = cc
+  tested_whole term position y behind (Ok (x, mid)) e h = judged_whole term position mid x y behind (test x) refl (f.read_whole term position x mid e) h
 
-  judged_part : (term : ℕ) (x : A) (mid : Place) (b : Bool) → test x ≡ b → judged b (fault term x) x mid ≡ Err Short → ⊥
+  judged_part : (term : ℕ) (x : A) (mid : Position) (b : Bool) → test x ≡ b → judged b (fault term x) x mid ≡ Err Short → ⊥
   judged_part term x mid true t h = cc
   judged_part term x mid false t h = let same : fault term x ≡ Short = cc in g term x t same
 
-  tested_part : (term : ℕ) (place : Place) (r : Reading A) → F.read term place ≡ r → go_on r (judge term) ≡ Err Short → F.Part place.left
-  tested_part term place (Err other) e h = let same : other ≡ Short = cc in f.read_part term place (e ∙ ap Err same)
-  tested_part term place (Ok (x, mid)) e h = absurd (judged_part term x mid (test x) refl h)
+  tested_part : (term : ℕ) (position : Position) (r : Reading A) → F.read term position ≡ r → go_on r (judge term) ≡ Err Short → F.Part position.left
+  tested_part term position (Err other) e h = let same : other ≡ Short = cc in f.read_part term position (e ∙ ap Err same)
+  tested_part term position (Ok (x, mid)) e h = absurd (judged_part term x mid (test x) refl h)
 
-  judged_break : (term : ℕ) (place mid : Place) (x : A) (why : EtfFault) (b : Bool) → test x ≡ b → Between (F.Whole x) place mid
-      → judged b (fault term x) x mid ≡ Err why → Begins (λ front. (tested F test fault).Break term place.offset front why) place.left
-  judged_break term place mid x why true t w h = cc
-  judged_break term place mid x why false t w h =
+  judged_break : (term : ℕ) (position mid : Position) (x : A) (why : EtfFault) (b : Bool) → test x ≡ b → Between (F.Whole x) position mid
+      → judged b (fault term x) x mid ≡ Err why → Begins (λ front. (tested F test fault).Break term position.offset front why) position.left
+  judged_break term position mid x why true t w h = cc
+  judged_break term position mid x why false t w h =
       let same : why ≡ fault term x = cc in
       record { front = w.front; rest = mid.left; holds = inr (x, w.holds, t, same); whole = w.bytes }
 
-  tested_break : (term : ℕ) (place : Place) (why : EtfFault) (r : Reading A) → F.read term place ≡ r
-      → go_on r (judge term) ≡ Err why → why ≢ Short → Begins (λ front. (tested F test fault).Break term place.offset front why) place.left
-  tested_break term place why (Err other) e h more =
+  tested_break : (term : ℕ) (position : Position) (why : EtfFault) (r : Reading A) → F.read term position ≡ r
+      → go_on r (judge term) ≡ Err why → why ≢ Short → Begins (λ front. (tested F test fault).Break term position.offset front why) position.left
+  tested_break term position why (Err other) e h more =
       let same : other ≡ why = cc in
-      let first = f.read_break term place why (e ∙ ap Err same) more in
+      let first = f.read_break term position why (e ∙ ap Err same) more in
       record { front = first.front; rest = first.rest; holds = inl first.holds; whole = first.whole }
-  tested_break term place why (Ok (x, mid)) e h more = judged_break term place mid x why (test x) refl (f.read_whole term place x mid e) h
+  tested_break term position why (Ok (x, mid)) e h more = judged_break term position mid x why (test x) refl (f.read_whole term position x mid e) h
 
   whole_tested : (term here : ℕ) (x : A) (front rest : List ℕ) → (tested F test fault).Whole x front
       → (tested F test fault).read term (record { offset = here; left = front ++ rest }) ≡ Ok (x, record { offset = here + length front; left = rest })
@@ -211,9 +211,9 @@ module _ {A : Type 0} (F : Format A) (test : A → Bool) (fault : ℕ → A → 
 
   pub tested-exact : IsExact (tested F test fault)
   tested-exact = record {
-    read_whole = λ term place y behind e. tested_whole term place y behind (F.read term place) refl e;
-    read_part = λ term place e. tested_part term place (F.read term place) refl e;
-    read_break = λ term place why e other. tested_break term place why (F.read term place) refl e other;
+    read_whole = λ term position y behind e. tested_whole term position y behind (F.read term position) refl e;
+    read_part = λ term position e. tested_part term position (F.read term position) refl e;
+    read_break = λ term position why e other. tested_break term position why (F.read term position) refl e other;
     whole_read = whole_tested;
     part_read = λ term here bytes p. ap (λ r. go_on r (judge term)) (f.part_read term here bytes p);
     break_read = break_tested;
@@ -224,9 +224,9 @@ module _ {A : Type 0} (F : Format A) (test : A → Bool) (fault : ℕ → A → 
 
 pub framed-exact : {A : Type 0} (F : Format A) → IsExact F → IsExact (framed F)
 framed-exact F f = record {
-  read_whole = λ term place x behind e. f.read_whole place.offset place x behind e;
-  read_part = λ term place e. f.read_part place.offset place e;
-  read_break = λ term place fault e other. f.read_break place.offset place fault e other;
+  read_whole = λ term position x behind e. f.read_whole position.offset position x behind e;
+  read_part = λ term position e. f.read_part position.offset position e;
+  read_break = λ term position fault e other. f.read_break position.offset position fault e other;
   whole_read = λ term here x front rest h. f.whole_read here here x front rest h;
   part_read = λ term here bytes h. f.part_read here here bytes h;
   break_read = λ term here front rest fault h. f.break_read here here front rest fault h;

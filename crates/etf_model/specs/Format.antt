@@ -3,25 +3,25 @@ use Rattle.std.specs.Prelude.{◌≡◌, ℕ, zero, suc, ◌+◌, Bool, true, fa
 use Rattle.etf_model.specs.declared.fault.EtfFault.{EtfFault}
 use Rattle.etf_model.specs.declared.fault.EtfFault.TheVariants.{Short}
 
--- a place in some bytes: its offset and what is left
-pub record Place : Type 0 where
+-- a position in some bytes: its offset and what is left
+pub record Position : Type 0 where
   pub offset : ℕ
   pub left : List ℕ
 
--- what reading answers: a value and the place behind it, or the fault
+-- what reading answers: a value and the position behind it, or the fault
 abbrev pub Reading : Type 0 → Type 0
-Reading A = Result (A × Place) EtfFault
+Reading A = Result (A × Position) EtfFault
 
 -- A format of values: which bytes are whole and of which value; which bytes end too early and break no rule; and which
 -- bytes break a rule with their last byte, where they begin at an offset, inside the term at another one. Beside these
--- relations what reading at a place answers, inside the term at an offset.
+-- relations what reading at a position answers, inside the term at an offset.
 pub record Format (A : Type 0) : Type 1 where
   pub Whole : A → List ℕ → Type 0
   pub Part : List ℕ → Type 0
   pub Break : (term here : ℕ) → List ℕ → EtfFault → Type 0
-  pub read : (term : ℕ) → Place → Reading A
+  pub read : (term : ℕ) → Position → Reading A
 
--- the byte at a place
+-- the byte at a position
 abbrev pub first_byte : ℕ → List ℕ → Reading ℕ
 first_byte here [] = Err Short
 first_byte here (x ∷ rest) = Ok (x, record { offset = here + 1; left = rest })
@@ -32,7 +32,7 @@ byte = record {
   Whole = λ x bytes. bytes ≡ x ∷ [];
   Part = λ bytes. bytes ≡ [];
   Break = λ term here bytes fault. ⊥;
-  read = λ term place. first_byte place.offset place.left;
+  read = λ term position. first_byte position.offset position.left;
 }
 
 -- no byte, with this value
@@ -41,11 +41,11 @@ give value = record {
   Whole = λ x bytes. (x ≡ value) × (bytes ≡ []);
   Part = λ bytes. ⊥;
   Break = λ term here bytes fault. ⊥;
-  read = λ term place. Ok (value, place);
+  read = λ term position. Ok (value, position);
 }
 
 -- a front with its value and length, and what follows it
-pub record Joined {A : Type 0} (P : A → List ℕ → Type 0) (Q : ℕ → A → List ℕ → Type 0) (bytes : List ℕ) : Type 0 where
+pub record FrontAndRest {A : Type 0} (P : A → List ℕ → Type 0) (Q : ℕ → A → List ℕ → Type 0) (bytes : List ℕ) : Type 0 where
   pub value : A
   pub front : List ℕ
   pub rest : List ℕ
@@ -54,7 +54,7 @@ pub record Joined {A : Type 0} (P : A → List ℕ → Type 0) (Q : ℕ → A �
   pub whole : bytes ≡ front ++ rest
 
 -- to go on behind a value
-abbrev pub go_on : {A B : Type 0} → Reading A → (A → Place → Reading B) → Reading B
+abbrev pub go_on : {A B : Type 0} → Reading A → (A → Position → Reading B) → Reading B
 go_on (Ok r) next = next r.0 r.1
 go_on (Err fault) next = Err fault
 
@@ -62,15 +62,15 @@ go_on (Err fault) next = Err fault
 -- behind a whole of it in the second.
 abbrev pub followed : {A B : Type 0} → Format A → (A → Format B) → Format B
 followed F G = record {
-  Whole = λ y bytes. Joined F.Whole (λ n x rest. (G x).Whole y rest) bytes;
-  Part = λ bytes. F.Part bytes ⊎ Joined F.Whole (λ n x rest. (G x).Part rest) bytes;
+  Whole = λ y bytes. FrontAndRest F.Whole (λ n x rest. (G x).Whole y rest) bytes;
+  Part = λ bytes. F.Part bytes ⊎ FrontAndRest F.Whole (λ n x rest. (G x).Part rest) bytes;
   Break = λ term here bytes fault. F.Break term here bytes fault
-      ⊎ Joined F.Whole (λ n x rest. (G x).Break term (here + n) rest fault) bytes;
-  read = λ term place. go_on (F.read term place) (λ x behind. (G x).read term behind);
+      ⊎ FrontAndRest F.Whole (λ n x rest. (G x).Break term (here + n) rest fault) bytes;
+  read = λ term position. go_on (F.read term position) (λ x behind. (G x).read term behind);
 }
 
 -- a value that passes a test, or the fault
-abbrev pub judged : {A : Type 0} → Bool → EtfFault → A → Place → Reading A
+abbrev pub judged : {A : Type 0} → Bool → EtfFault → A → Position → Reading A
 judged passes fault x behind = cond passes (Ok (x, behind)) (Err fault)
 
 -- A format whose values are to pass a test. One that does not breaks a rule with its last byte.
@@ -80,7 +80,7 @@ tested {A} F test fault = record {
   Part = F.Part;
   Break = λ term here bytes f. F.Break term here bytes f
       ⊎ ((x : A) × F.Whole x bytes × (test x ≡ false) × (f ≡ fault term x));
-  read = λ term place. go_on (F.read term place) (λ x behind. judged (test x) (fault term x) x behind);
+  read = λ term position. go_on (F.read term position) (λ x behind. judged (test x) (fault term x) x behind);
 }
 
 -- a format that begins a term of its own: faults inside are told with the offset at which it begins
@@ -89,7 +89,7 @@ framed F = record {
   Whole = F.Whole;
   Part = F.Part;
   Break = λ term here bytes fault. F.Break here here bytes fault;
-  read = λ term place. F.read place.offset place;
+  read = λ term position. F.read position.offset position;
 }
 
 -- the value of a format, changed
@@ -112,5 +112,5 @@ refused fault = record {
   Whole = λ x bytes. ⊥;
   Part = λ bytes. ⊥;
   Break = λ term here bytes f. (bytes ≡ []) × (f ≡ fault here);
-  read = λ term place. Err (fault place.offset);
+  read = λ term position. Err (fault position.offset);
 }

@@ -7,7 +7,7 @@ use Rattle.etf_model.specs.declared.fed.Fed.{Fed}
 use Rattle.etf_model.specs.declared.fed.Fed.TheVariants.{Term, End}
 use Rattle.etf_model.specs.Answers.{IsFront}
 use Rattle.etf_model.specs.Fronts.{Begins}
-use Rattle.etf_model.specs.FeedState.{FeedState, longest}
+use Rattle.etf_model.specs.SpellingFeed.{SpellingFeed, longest}
 use Rattle.etf_model.specs.Next.{IsNext}
 use Rattle.etf_model.specs.Spelling.{spelling, IsPart, IsBreak}
 
@@ -23,16 +23,16 @@ pub data Call : Type 0 where
   Answer : Result Fed EtfFault → Call
 
 -- a feed of which nothing was fed yet
-abbrev pub empty_feed : FeedState
+abbrev pub empty_feed : SpellingFeed
 empty_feed = record { left = []; offset = 0; finished = false; fault = None }
 
 -- These calls may come one behind the other, from a state on. Where memory was wanted for a piece it was not fed, and this
 -- is no call here.
-abbrev pub IsHistory : FeedState → List Call → Type 0
+abbrev pub IsHistory : SpellingFeed → List Call → Type 0
 IsHistory s [] = Unit {0}
 IsHistory s (Piece piece ∷ calls) = (s.finished ≡ false) × IsHistory (record s { left = s.left ++ piece }) calls
 IsHistory s (Finish ∷ calls) = IsHistory (record s { finished = true }) calls
-IsHistory s (Answer r ∷ calls) = (new : FeedState) × IsNext s new r × IsHistory new calls
+IsHistory s (Answer r ∷ calls) = (new : SpellingFeed) × IsNext s new r × IsHistory new calls
 
 -- all that was fed
 abbrev pub fed_bytes : List Call → List ℕ

@@ -4,11 +4,11 @@ use Rattle.std.specs.Prelude.{ℕ, ◌-◌, ◌^◌, ℤ, pos, neg_ℤ, ◌-ℤ�
 use Rattle.std.specs.List.{list_any}
 use Rattle.std.specs.Str.{is_utf8, chars}
 use Rattle.dets_term.specs.TermValue.{TermValue, integer, chain, nil}
+use Rattle.etf_model.specs.declared.tags.TheConstants.{SMALL_INTEGER, INTEGER, SMALL_BIG, LARGE_BIG, ATOM, SMALL_ATOM, ATOM_UTF8, SMALL_ATOM_UTF8, SMALL_TUPLE, LARGE_TUPLE, NIL, STRING, LIST, BINARY, BIT_BINARY, MAP}
 
--- SMALL_INTEGER, INTEGER, SMALL_BIG, LARGE_BIG, ATOM, SMALL_ATOM, ATOM_UTF8, SMALL_ATOM_UTF8, SMALL_TUPLE, LARGE_TUPLE,
--- NIL, STRING, LIST, BINARY, BIT_BINARY and MAP
+-- the tags of this project's terms
 abbrev pub known_tags : List ℕ
-known_tags = 97 ∷ 98 ∷ 110 ∷ 111 ∷ 100 ∷ 115 ∷ 118 ∷ 119 ∷ 104 ∷ 105 ∷ 106 ∷ 107 ∷ 108 ∷ 109 ∷ 77 ∷ 116 ∷ []
+known_tags = SMALL_INTEGER ∷ INTEGER ∷ SMALL_BIG ∷ LARGE_BIG ∷ ATOM ∷ SMALL_ATOM ∷ ATOM_UTF8 ∷ SMALL_ATOM_UTF8 ∷ SMALL_TUPLE ∷ LARGE_TUPLE ∷ NIL ∷ STRING ∷ LIST ∷ BINARY ∷ BIT_BINARY ∷ MAP ∷ []
 
 -- a tag that begins a term
 abbrev pub is_known : ℕ → Bool
@@ -16,7 +16,7 @@ is_known tag = list_any (λ t. t == tag) known_tags
 
 -- a tag that begins the tail of a list with elements: the empty list, or a term that is no list
 abbrev pub begins_tail : ℕ → Bool
-begins_tail tag = is_known tag && not (tag == 107 || tag == 108)
+begins_tail tag = is_known tag && not (tag == STRING || tag == LIST)
 
 -- a number of 32 bits in two's complement
 abbrev pub signed_32 : ℕ → ℤ

@@ -2,8 +2,8 @@
 --
 -- What bytes mean is said by formats. A format has three relations, which are the definition: the whole bytes of a
 -- value, the bytes that end too early, and the bytes that break a rule with their last one. Beside them it has a
--- reading, the middle between the relations and the code: a function from a place in the bytes to the value and the
--- place behind it, or to the fault.
+-- reading, the middle between the relations and the code: a function from a position in the bytes to the value and the
+-- position behind it, or to the fault.
 
 -- ---- definitions
 pub mod Format
@@ -15,7 +15,7 @@ pub mod Moved
 pub mod Answers
 pub mod Decoding
 pub mod Skipping
-pub mod FeedState
+pub mod SpellingFeed
 pub mod Next
 pub mod History
 -- ---- middles: that the reading of a format agrees with its relations, and that the last byte of a break is the first to

@@ -4,15 +4,16 @@ use Rattle.std.specs.Prelude.{ℕ, zero, suc, ◌+◌, ◌*◌, Bool, false, ◌
 use Rattle.std.specs.List.{list_any}
 use Rattle.etf_model.specs.declared.fault.EtfFault.{EtfFault}
 use Rattle.etf_model.specs.declared.fault.EtfFault.TheVariants.{Short, Unsupported, Depth, Memory}
+use Rattle.etf_model.specs.declared.tags.TheConstants.{SMALL_INTEGER, INTEGER, SMALL_BIG, LARGE_BIG, ATOM, SMALL_ATOM, ATOM_UTF8, SMALL_ATOM_UTF8, SMALL_TUPLE, LARGE_TUPLE, STRING, LIST, BINARY, BIT_BINARY, MAP, NEW_FLOAT, PID, NEW_PID, PORT, NEW_PORT, V4_PORT, NEW_REFERENCE, NEWER_REFERENCE}
 use Rattle.etf_model.specs.Format.{Format, byte, followed, framed, changed, either, times}
 use Rattle.etf_model.specs.Fronts.{Begins}
 use Rattle.etf_model.specs.Answers.{IsFront, Answers}
 use Rattle.etf_model.specs.Layout.{known_tags}
 use Rattle.etf_model.specs.Spelling.{number, tag_of}
 
--- FLOAT in its new form, PID, NEW_PID, PORT, NEW_PORT, V4_PORT, NEW_REFERENCE and NEWER_REFERENCE
+-- the tags of terms that are only passed over
 abbrev pub further_tags : List ℕ
-further_tags = 70 ∷ 103 ∷ 88 ∷ 102 ∷ 89 ∷ 120 ∷ 114 ∷ 90 ∷ []
+further_tags = NEW_FLOAT ∷ PID ∷ NEW_PID ∷ PORT ∷ NEW_PORT ∷ V4_PORT ∷ NEW_REFERENCE ∷ NEWER_REFERENCE ∷ []
 
 -- a tag whose layout is known
 abbrev pub has_layout : ℕ → Bool
@@ -20,7 +21,7 @@ has_layout tag = list_any (λ t. t == tag) known_tags || list_any (λ t. t == ta
 
 -- a tag that begins a node: an atom
 abbrev pub begins_node : ℕ → Bool
-begins_node tag = list_any (λ t. t == tag) (100 ∷ 115 ∷ 118 ∷ 119 ∷ [])
+begins_node tag = list_any (λ t. t == tag) (ATOM ∷ SMALL_ATOM ∷ ATOM_UTF8 ∷ SMALL_ATOM_UTF8 ∷ [])
 
 -- so many bytes, whatever they are
 abbrev pub gap : ℕ → Format (Unit {0})
@@ -34,7 +35,7 @@ sized_gap size extra = followed (number size) (λ n. gap (n + extra))
 abbrev pub node : Format (Unit {0})
 node =
     framed (followed (tag_of begins_node (λ term x. Unsupported term x))
-    (λ tag. either (tag == 115 || tag == 119) (sized_gap 1 0) (sized_gap 2 0)))
+    (λ tag. either (tag == SMALL_ATOM || tag == SMALL_ATOM_UTF8) (sized_gap 1 0) (sized_gap 2 0)))
 
 -- a node and so many bytes behind it
 abbrev pub at_node : ℕ → Format (Unit {0})
@@ -55,29 +56,29 @@ counted part size each extra = followed (number size) (λ n. parts part (each * 
 -- what follows a tag, one case for each
 abbrev pub skip_body : Format (Unit {0}) → ℕ → Format (Unit {0})
 skip_body part tag =
-    either (tag == 97) (gap 1)
-    (either (tag == 98) (gap 4)
-    (either (tag == 70) (gap 8)
-    (either (tag == 110) (sized_gap 1 1)
-    (either (tag == 111) (sized_gap 4 1)
-    (either (tag == 100) (sized_gap 2 0)
-    (either (tag == 115) (sized_gap 1 0)
-    (either (tag == 118) (sized_gap 2 0)
-    (either (tag == 119) (sized_gap 1 0)
-    (either (tag == 107) (sized_gap 2 0)
-    (either (tag == 109) (sized_gap 4 0)
-    (either (tag == 77) (sized_gap 4 1)
-    (either (tag == 104) (counted part 1 1 0)
-    (either (tag == 105) (counted part 4 1 0)
-    (either (tag == 108) (counted part 4 1 1)
-    (either (tag == 116) (counted part 4 2 0)
-    (either (tag == 103) (at_node 9)
-    (either (tag == 88) (at_node 12)
-    (either (tag == 102) (at_node 5)
-    (either (tag == 89) (at_node 8)
-    (either (tag == 120) (at_node 12)
-    (either (tag == 114) (reference 1)
-    (either (tag == 90) (reference 4) (gap 0)))))))))))))))))))))))
+    either (tag == SMALL_INTEGER) (gap 1)
+    (either (tag == INTEGER) (gap 4)
+    (either (tag == NEW_FLOAT) (gap 8)
+    (either (tag == SMALL_BIG) (sized_gap 1 1)
+    (either (tag == LARGE_BIG) (sized_gap 4 1)
+    (either (tag == ATOM) (sized_gap 2 0)
+    (either (tag == SMALL_ATOM) (sized_gap 1 0)
+    (either (tag == ATOM_UTF8) (sized_gap 2 0)
+    (either (tag == SMALL_ATOM_UTF8) (sized_gap 1 0)
+    (either (tag == STRING) (sized_gap 2 0)
+    (either (tag == BINARY) (sized_gap 4 0)
+    (either (tag == BIT_BINARY) (sized_gap 4 1)
+    (either (tag == SMALL_TUPLE) (counted part 1 1 0)
+    (either (tag == LARGE_TUPLE) (counted part 4 1 0)
+    (either (tag == LIST) (counted part 4 1 1)
+    (either (tag == MAP) (counted part 4 2 0)
+    (either (tag == PID) (at_node 9)
+    (either (tag == NEW_PID) (at_node 12)
+    (either (tag == PORT) (at_node 5)
+    (either (tag == NEW_PORT) (at_node 8)
+    (either (tag == V4_PORT) (at_node 12)
+    (either (tag == NEW_REFERENCE) (reference 1)
+    (either (tag == NEWER_REFERENCE) (reference 4) (gap 0)))))))))))))))))))))))
 
 -- A term with so many levels below and at it. At level 257 each tag is refused.
 abbrev pub skipped_at : ℕ → Format (Unit {0})

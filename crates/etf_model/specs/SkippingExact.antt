@@ -2,7 +2,7 @@
 use Rattle.std.proofs.Common.{◌≡◌, ℕ, Bool, List, Err, inl, inr, sym, subst}
 use Rattle.etf_model.specs.declared.fault.EtfFault.{EtfFault}
 use Rattle.etf_model.specs.declared.fault.EtfFault.TheVariants.{Memory}
-use Rattle.etf_model.specs.Format.{Format, Place, followed, tested}
+use Rattle.etf_model.specs.Format.{Format, Position, followed, tested}
 use Rattle.etf_model.specs.Skipping.{skipped, IsSkipFault}
 use Rattle.etf_model.specs.Exact.{IsExact}
 use Rattle.etf_model.specs.Kept.{IsKeptWhere}
@@ -46,7 +46,7 @@ pub skip_break-told : (term here : ℕ) (bytes : List ℕ) (fault : EtfFault) �
 skip_break-told term here bytes fault h = skipped-told.break_told term here bytes fault h
 
 -- reading what is passed over needs no memory
-pub skipped_needs_no_memory : (term : ℕ) (place : Place) → skipped.read term place ≡ Err Memory → ⊥
-skipped_needs_no_memory term place e =
-    let b = skipped-exact.read_break term place Memory e (λ same. cc) in
-    skip_break-told term place.offset b.front Memory b.holds
+pub skipped_needs_no_memory : (term : ℕ) (position : Position) → skipped.read term position ≡ Err Memory → ⊥
+skipped_needs_no_memory term position e =
+    let b = skipped-exact.read_break term position Memory e (λ same. cc) in
+    skip_break-told term position.offset b.front Memory b.holds

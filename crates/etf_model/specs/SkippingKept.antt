@@ -2,6 +2,7 @@
 use Rattle.std.proofs.Common.{ℕ, zero, suc, ◌+◌, ◌*◌, false, ◌||◌, ◌==◌}
 use Rattle.etf_model.specs.declared.fault.EtfFault.{EtfFault}
 use Rattle.etf_model.specs.declared.fault.EtfFault.TheVariants.{Unsupported, Depth}
+use Rattle.etf_model.specs.declared.tags.TheConstants.{SMALL_INTEGER, INTEGER, SMALL_BIG, LARGE_BIG, ATOM, SMALL_ATOM, ATOM_UTF8, SMALL_ATOM_UTF8, SMALL_TUPLE, LARGE_TUPLE, STRING, LIST, BINARY, BIT_BINARY, MAP, NEW_FLOAT, PID, NEW_PID, PORT, NEW_PORT, V4_PORT, NEW_REFERENCE, NEWER_REFERENCE}
 use Rattle.etf_model.specs.Format.{Format, byte, followed, changed, either, times}
 use Rattle.etf_model.specs.Spelling.{number, tag_of}
 use Rattle.etf_model.specs.Skipping.{has_layout, begins_node, gap, sized_gap, node, at_node, reference, parts, counted, skip_body, skipped_at, skipped}
@@ -18,10 +19,10 @@ module _ {Told : (A : Type 0) → (ℕ → A → EtfFault) → Type 0} (P : (A :
 
   node-kept : P (Unit {0}) node
   node-kept =
-      kept.of_framed (followed (tag_of begins_node (λ term x. Unsupported term x)) (λ tag. either (tag == 115 || tag == 119) (sized_gap 1 0) (sized_gap 2 0)))
-      (kept.of_followed (tag_of begins_node (λ term x. Unsupported term x)) (λ tag. either (tag == 115 || tag == 119) (sized_gap 1 0) (sized_gap 2 0))
+      kept.of_framed (followed (tag_of begins_node (λ term x. Unsupported term x)) (λ tag. either (tag == SMALL_ATOM || tag == SMALL_ATOM_UTF8) (sized_gap 1 0) (sized_gap 2 0)))
+      (kept.of_followed (tag_of begins_node (λ term x. Unsupported term x)) (λ tag. either (tag == SMALL_ATOM || tag == SMALL_ATOM_UTF8) (sized_gap 1 0) (sized_gap 2 0))
       (tested_byte-kept P kept begins_node (λ term x. Unsupported term x) tag_told)
-      (λ tag front w. either-kept P kept (tag == 115 || tag == 119) (sized_gap 1 0) (sized_gap 2 0) (sized_gap-kept 1 0) (λ _. sized_gap-kept 2 0)))
+      (λ tag front w. either-kept P kept (tag == SMALL_ATOM || tag == SMALL_ATOM_UTF8) (sized_gap 1 0) (sized_gap 2 0) (sized_gap-kept 1 0) (λ _. sized_gap-kept 2 0)))
 
   at_node-kept : (n : ℕ) → P (Unit {0}) (at_node n)
   at_node-kept n = kept.of_followed node (λ name. gap n) node-kept (λ name front w. gap-kept n)
@@ -37,29 +38,29 @@ module _ {Told : (A : Type 0) → (ℕ → A → EtfFault) → Type 0} (P : (A :
 
     body-kept : (tag : ℕ) → P (Unit {0}) (skip_body part tag)
     body-kept tag =
-        either-kept P kept (tag == 97) _ _ (gap-kept 1)
-        (λ _. either-kept P kept (tag == 98) _ _ (gap-kept 4)
-        (λ _. either-kept P kept (tag == 70) _ _ (gap-kept 8)
-        (λ _. either-kept P kept (tag == 110) _ _ (sized_gap-kept 1 1)
-        (λ _. either-kept P kept (tag == 111) _ _ (sized_gap-kept 4 1)
-        (λ _. either-kept P kept (tag == 100) _ _ (sized_gap-kept 2 0)
-        (λ _. either-kept P kept (tag == 115) _ _ (sized_gap-kept 1 0)
-        (λ _. either-kept P kept (tag == 118) _ _ (sized_gap-kept 2 0)
-        (λ _. either-kept P kept (tag == 119) _ _ (sized_gap-kept 1 0)
-        (λ _. either-kept P kept (tag == 107) _ _ (sized_gap-kept 2 0)
-        (λ _. either-kept P kept (tag == 109) _ _ (sized_gap-kept 4 0)
-        (λ _. either-kept P kept (tag == 77) _ _ (sized_gap-kept 4 1)
-        (λ _. either-kept P kept (tag == 104) _ _ (counted-kept 1 1 0)
-        (λ _. either-kept P kept (tag == 105) _ _ (counted-kept 4 1 0)
-        (λ _. either-kept P kept (tag == 108) _ _ (counted-kept 4 1 1)
-        (λ _. either-kept P kept (tag == 116) _ _ (counted-kept 4 2 0)
-        (λ _. either-kept P kept (tag == 103) _ _ (at_node-kept 9)
-        (λ _. either-kept P kept (tag == 88) _ _ (at_node-kept 12)
-        (λ _. either-kept P kept (tag == 102) _ _ (at_node-kept 5)
-        (λ _. either-kept P kept (tag == 89) _ _ (at_node-kept 8)
-        (λ _. either-kept P kept (tag == 120) _ _ (at_node-kept 12)
-        (λ _. either-kept P kept (tag == 114) _ _ (reference-kept 1)
-        (λ _. either-kept P kept (tag == 90) _ _ (reference-kept 4) (λ _. gap-kept 0)))))))))))))))))))))))
+        either-kept P kept (tag == SMALL_INTEGER) _ _ (gap-kept 1)
+        (λ _. either-kept P kept (tag == INTEGER) _ _ (gap-kept 4)
+        (λ _. either-kept P kept (tag == NEW_FLOAT) _ _ (gap-kept 8)
+        (λ _. either-kept P kept (tag == SMALL_BIG) _ _ (sized_gap-kept 1 1)
+        (λ _. either-kept P kept (tag == LARGE_BIG) _ _ (sized_gap-kept 4 1)
+        (λ _. either-kept P kept (tag == ATOM) _ _ (sized_gap-kept 2 0)
+        (λ _. either-kept P kept (tag == SMALL_ATOM) _ _ (sized_gap-kept 1 0)
+        (λ _. either-kept P kept (tag == ATOM_UTF8) _ _ (sized_gap-kept 2 0)
+        (λ _. either-kept P kept (tag == SMALL_ATOM_UTF8) _ _ (sized_gap-kept 1 0)
+        (λ _. either-kept P kept (tag == STRING) _ _ (sized_gap-kept 2 0)
+        (λ _. either-kept P kept (tag == BINARY) _ _ (sized_gap-kept 4 0)
+        (λ _. either-kept P kept (tag == BIT_BINARY) _ _ (sized_gap-kept 4 1)
+        (λ _. either-kept P kept (tag == SMALL_TUPLE) _ _ (counted-kept 1 1 0)
+        (λ _. either-kept P kept (tag == LARGE_TUPLE) _ _ (counted-kept 4 1 0)
+        (λ _. either-kept P kept (tag == LIST) _ _ (counted-kept 4 1 1)
+        (λ _. either-kept P kept (tag == MAP) _ _ (counted-kept 4 2 0)
+        (λ _. either-kept P kept (tag == PID) _ _ (at_node-kept 9)
+        (λ _. either-kept P kept (tag == NEW_PID) _ _ (at_node-kept 12)
+        (λ _. either-kept P kept (tag == PORT) _ _ (at_node-kept 5)
+        (λ _. either-kept P kept (tag == NEW_PORT) _ _ (at_node-kept 8)
+        (λ _. either-kept P kept (tag == V4_PORT) _ _ (at_node-kept 12)
+        (λ _. either-kept P kept (tag == NEW_REFERENCE) _ _ (reference-kept 1)
+        (λ _. either-kept P kept (tag == NEWER_REFERENCE) _ _ (reference-kept 4) (λ _. gap-kept 0)))))))))))))))))))))))
 
   skipped_at-kept : (levels : ℕ) → P (Unit {0}) (skipped_at levels)
   skipped_at-kept zero =

@@ -7,6 +7,7 @@ use Rattle.dets_term.specs.Pairs.{keys, placed}
 use Rattle.dets_term.specs.BitString.{bits_of}
 use Rattle.etf_model.specs.declared.fault.EtfFault.{EtfFault}
 use Rattle.etf_model.specs.declared.fault.EtfFault.TheVariants.{NotVersion, Unsupported, Compressed, IntegerRange, BadAtom, BadBits, RepeatedKey, Depth}
+use Rattle.etf_model.specs.declared.tags.TheConstants.{VERSION, COMPRESSED, SMALL_INTEGER, INTEGER, SMALL_BIG, LARGE_BIG, ATOM, SMALL_ATOM, ATOM_UTF8, SMALL_ATOM_UTF8, SMALL_TUPLE, LARGE_TUPLE, NIL, STRING, LIST, BINARY, BIT_BINARY, MAP}
 use Rattle.etf_model.specs.Format.{Format, byte, give, followed, tested, framed, changed, either, times, refused}
 use Rattle.etf_model.specs.Fronts.{Begins}
 use Rattle.etf_model.specs.Layout.{is_known, begins_tail, signed_32, signed, limit, characters, is_name, may_use, integers}
@@ -75,7 +76,7 @@ tuple_of part levels size = followed (count levels size) (λ n. changed (times n
 
 -- what ends a list without elements
 abbrev pub no_tail : Format TermValue
-no_tail = framed (changed (tested byte (λ x. x == 106) (λ term x. Unsupported term x)) (λ x. nil))
+no_tail = framed (changed (tested byte (λ x. x == NIL) (λ term x. Unsupported term x)) (λ x. nil))
 
 abbrev pub list_of : Format TermValue → Format TermValue → ℕ → Format TermValue
 list_of part tail levels =
@@ -95,21 +96,21 @@ map_format part levels = followed (count levels 4) (λ n. changed (pairs_after p
 -- what follows a tag, one case for each; below the term's level so many levels are left
 abbrev pub body : Format TermValue → Format TermValue → ℕ → ℕ → Format TermValue
 body part tail levels tag =
-    either (tag == 97) (changed byte (λ x. integer (pos x)))
-    (either (tag == 98) (changed (number 4) (λ n. integer (signed_32 n)))
-    (either (tag == 110) (big_integer 1)
-    (either (tag == 111) (big_integer 4)
-    (either (tag == 100) (name false 2)
-    (either (tag == 115) (name false 1)
-    (either (tag == 118) (name true 2)
-    (either (tag == 119) (name true 1)
-    (either (tag == 104) (tuple_of part levels 1)
-    (either (tag == 105) (tuple_of part levels 4)
-    (either (tag == 107) (string levels)
-    (either (tag == 108) (list_of part tail levels)
-    (either (tag == 109) binary
-    (either (tag == 77) bit_binary
-    (either (tag == 116) (map_format part levels) (give nil)))))))))))))))
+    either (tag == SMALL_INTEGER) (changed byte (λ x. integer (pos x)))
+    (either (tag == INTEGER) (changed (number 4) (λ n. integer (signed_32 n)))
+    (either (tag == SMALL_BIG) (big_integer 1)
+    (either (tag == LARGE_BIG) (big_integer 4)
+    (either (tag == ATOM) (name false 2)
+    (either (tag == SMALL_ATOM) (name false 1)
+    (either (tag == ATOM_UTF8) (name true 2)
+    (either (tag == SMALL_ATOM_UTF8) (name true 1)
+    (either (tag == SMALL_TUPLE) (tuple_of part levels 1)
+    (either (tag == LARGE_TUPLE) (tuple_of part levels 4)
+    (either (tag == STRING) (string levels)
+    (either (tag == LIST) (list_of part tail levels)
+    (either (tag == BINARY) binary
+    (either (tag == BIT_BINARY) bit_binary
+    (either (tag == MAP) (map_format part levels) (give nil)))))))))))))))
 
 -- a tag that passes a test
 abbrev pub tag_of : (ℕ → Bool) → (ℕ → ℕ → EtfFault) → Format ℕ
@@ -134,13 +135,13 @@ tail_at levels = term_with begins_tail (λ term x. Unsupported term x) levels
 unfoldable pub body_of : ℕ → ℕ → Format TermValue
 body_of levels tag = body (part_at levels) (tail_at levels) levels tag
 
--- the first term, behind 131: 80 begins a compressed one
+-- the outermost term, behind 131: 80 begins a compressed one
 abbrev pub outermost : Format TermValue
-outermost = term_with is_known (λ term x. cond (x == 80) (Compressed term) (Unsupported term x)) 256
+outermost = term_with is_known (λ term x. cond (x == COMPRESSED) (Compressed term) (Unsupported term x)) 256
 
 -- a spelling: the byte 131 and a term of at most 256 levels
 abbrev pub spelling : Format TermValue
-spelling = followed (tag_of (λ x. x == 131) (λ term x. NotVersion term)) (λ x. outermost)
+spelling = followed (tag_of (λ x. x == VERSION) (λ term x. NotVersion term)) (λ x. outermost)
 
 -- bytes that spell a term
 abbrev pub Spells : TermValue → List ℕ → Type 0

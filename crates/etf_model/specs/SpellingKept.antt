@@ -8,6 +8,7 @@ use Rattle.dets_term.specs.Pairs.{keys, placed}
 use Rattle.dets_term.specs.BitString.{bits_of}
 use Rattle.etf_model.specs.declared.fault.EtfFault.{EtfFault}
 use Rattle.etf_model.specs.declared.fault.EtfFault.TheVariants.{Short, Memory, NotVersion, Unsupported, Compressed, IntegerRange, BadAtom, BadBits, RepeatedKey, Depth, LongTerm}
+use Rattle.etf_model.specs.declared.tags.TheConstants.{VERSION, COMPRESSED, SMALL_INTEGER, INTEGER, SMALL_BIG, LARGE_BIG, ATOM, SMALL_ATOM, ATOM_UTF8, SMALL_ATOM_UTF8, SMALL_TUPLE, LARGE_TUPLE, NIL, STRING, LIST, BINARY, BIT_BINARY, MAP}
 use Rattle.etf_model.specs.Format.{Format, byte, followed, tested, framed, changed, either, times}
 use Rattle.etf_model.specs.Sharp.{HasBytes}
 use Rattle.etf_model.specs.Moved.{moved}
@@ -58,12 +59,12 @@ first_moves : (n term x : ℕ) (b : Bool) → moved n (first_fault term x b) ≡
 first_moves n term x true = refl
 first_moves n term x false = refl
 
-first_tells : TellsOffset (λ term x. cond (x == 80) (Compressed term) (Unsupported term x))
+first_tells : TellsOffset (λ term x. cond (x == COMPRESSED) (Compressed term) (Unsupported term x))
 first_tells = record {
-  not_short = λ term x. first_short term x (x == 80);
-  not_memory = λ term x. first_memory term x (x == 80);
-  not_long = λ term x at. first_long term x at (x == 80);
-  moves = λ n term x. first_moves n term x (x == 80);
+  not_short = λ term x. first_short term x (x == COMPRESSED);
+  not_memory = λ term x. first_memory term x (x == COMPRESSED);
+  not_long = λ term x at. first_long term x at (x == COMPRESSED);
+  moves = λ n term x. first_moves n term x (x == COMPRESSED);
 }
 
 -- ---- what has bytes, and where parts are counted
@@ -89,7 +90,7 @@ term_some test fault (suc levels) =
     (tested_some byte test fault byte_some)
 
 pub spelling_some : HasBytes spelling
-spelling_some = followed_some (tag_of (λ x. x == 131) (λ term x. NotVersion term)) (λ x. outermost) (tested_some byte (λ x. x == 131) (λ term x. NotVersion term) byte_some)
+spelling_some = followed_some (tag_of (λ x. x == VERSION) (λ term x. NotVersion term)) (λ x. outermost) (tested_some byte (λ x. x == VERSION) (λ term x. NotVersion term) byte_some)
 
 -- ---- numbers and bytes, whatever is known of the faults of tests
 
@@ -178,9 +179,9 @@ module _ (P : (A : Type 0) → Format A → Type 0) (kept : IsKept P) where
 
     no_tail-kept : P TermValue no_tail
     no_tail-kept =
-        kept.of_framed (changed (tested byte (λ x. x == 106) (λ term x. Unsupported term x)) (λ x. nil))
-        (changed-kept P kept (tested byte (λ x. x == 106) (λ term x. Unsupported term x)) (λ x. nil)
-        (tested_byte-kept P kept (λ x. x == 106) (λ term x. Unsupported term x) tag_tells))
+        kept.of_framed (changed (tested byte (λ x. x == NIL) (λ term x. Unsupported term x)) (λ x. nil))
+        (changed-kept P kept (tested byte (λ x. x == NIL) (λ term x. Unsupported term x)) (λ x. nil)
+        (tested_byte-kept P kept (λ x. x == NIL) (λ term x. Unsupported term x) tag_tells))
 
     list_of-kept : P TermValue (list_of part tail levels)
     list_of-kept =
@@ -207,21 +208,21 @@ module _ (P : (A : Type 0) → Format A → Type 0) (kept : IsKept P) where
 
     body-kept : (tag : ℕ) → P TermValue (body part tail levels tag)
     body-kept tag =
-        either-kept P kept (tag == 97) _ _ (changed-kept P kept byte (λ x. integer (pos x)) kept.of_byte)
-        (λ _. either-kept P kept (tag == 98) _ _ (changed-kept P kept (number 4) (λ n. integer (signed_32 n)) (number-kept P kept 4))
-        (λ _. either-kept P kept (tag == 110) _ _ (big_integer-kept 1)
-        (λ _. either-kept P kept (tag == 111) _ _ (big_integer-kept 4)
-        (λ _. either-kept P kept (tag == 100) _ _ (name-kept false 1)
-        (λ _. either-kept P kept (tag == 115) _ _ (name-kept false 0)
-        (λ _. either-kept P kept (tag == 118) _ _ (name-kept true 1)
-        (λ _. either-kept P kept (tag == 119) _ _ (name-kept true 0)
-        (λ _. either-kept P kept (tag == 104) _ _ (tuple_of-kept 1)
-        (λ _. either-kept P kept (tag == 105) _ _ (tuple_of-kept 4)
-        (λ _. either-kept P kept (tag == 107) _ _ (string-kept levels)
-        (λ _. either-kept P kept (tag == 108) _ _ list_of-kept
-        (λ _. either-kept P kept (tag == 109) _ _ binary-kept
-        (λ _. either-kept P kept (tag == 77) _ _ bit_binary-kept
-        (λ _. either-kept P kept (tag == 116) _ _ map_format-kept (λ _. kept.of_give nil)))))))))))))))
+        either-kept P kept (tag == SMALL_INTEGER) _ _ (changed-kept P kept byte (λ x. integer (pos x)) kept.of_byte)
+        (λ _. either-kept P kept (tag == INTEGER) _ _ (changed-kept P kept (number 4) (λ n. integer (signed_32 n)) (number-kept P kept 4))
+        (λ _. either-kept P kept (tag == SMALL_BIG) _ _ (big_integer-kept 1)
+        (λ _. either-kept P kept (tag == LARGE_BIG) _ _ (big_integer-kept 4)
+        (λ _. either-kept P kept (tag == ATOM) _ _ (name-kept false 1)
+        (λ _. either-kept P kept (tag == SMALL_ATOM) _ _ (name-kept false 0)
+        (λ _. either-kept P kept (tag == ATOM_UTF8) _ _ (name-kept true 1)
+        (λ _. either-kept P kept (tag == SMALL_ATOM_UTF8) _ _ (name-kept true 0)
+        (λ _. either-kept P kept (tag == SMALL_TUPLE) _ _ (tuple_of-kept 1)
+        (λ _. either-kept P kept (tag == LARGE_TUPLE) _ _ (tuple_of-kept 4)
+        (λ _. either-kept P kept (tag == STRING) _ _ (string-kept levels)
+        (λ _. either-kept P kept (tag == LIST) _ _ list_of-kept
+        (λ _. either-kept P kept (tag == BINARY) _ _ binary-kept
+        (λ _. either-kept P kept (tag == BIT_BINARY) _ _ bit_binary-kept
+        (λ _. either-kept P kept (tag == MAP) _ _ map_format-kept (λ _. kept.of_give nil)))))))))))))))
 
   term_with-kept : (test : ℕ → Bool) (fault : ℕ → ℕ → EtfFault) → TellsOffset fault → (levels : ℕ) → may_have_parts levels ≡ true → P TermValue (term_with test fault levels)
   term_with-kept test fault tells zero e = cc
@@ -242,9 +243,9 @@ module _ (P : (A : Type 0) → Format A → Type 0) (kept : IsKept P) where
       (term_with-kept begins_tail (λ term x. Unsupported term x) tag_tells levels) tag
 
   outermost-kept : P TermValue outermost
-  outermost-kept = term_with-kept is_known (λ term x. cond (x == 80) (Compressed term) (Unsupported term x)) first_tells 256 refl
+  outermost-kept = term_with-kept is_known (λ term x. cond (x == COMPRESSED) (Compressed term) (Unsupported term x)) first_tells 256 refl
 
   pub spelling-kept : P TermValue spelling
   spelling-kept =
-      kept.of_followed (tag_of (λ x. x == 131) (λ term x. NotVersion term)) (λ x. outermost)
-      (tested_byte-kept P kept (λ x. x == 131) (λ term x. NotVersion term) version_tells) (λ x front w. outermost-kept)
+      kept.of_followed (tag_of (λ x. x == VERSION) (λ term x. NotVersion term)) (λ x. outermost)
+      (tested_byte-kept P kept (λ x. x == VERSION) (λ term x. NotVersion term) version_tells) (λ x front w. outermost-kept)

@@ -2,7 +2,7 @@
 use Rattle.std.proofs.Common.{◌≡◌, ◌≢◌, ℕ, Bool, List, Err, inl, inr, sym}
 use Rattle.etf_model.specs.declared.fault.EtfFault.{EtfFault}
 use Rattle.etf_model.specs.declared.fault.EtfFault.TheVariants.{Short, Memory, LongTerm}
-use Rattle.etf_model.specs.Format.{Place, Format, followed, tested}
+use Rattle.etf_model.specs.Format.{Position, Format, followed, tested}
 use Rattle.etf_model.specs.Exact.{IsExact}
 use Rattle.etf_model.specs.Kept.{TellsOffset, IsKept}
 
@@ -41,7 +41,7 @@ module _ (stray : EtfFault) (is_stray : IsStray stray) where
   }
 
 -- reading never answers it
-pub never_read : (stray : EtfFault) {A : Type 0} (F : Format A) → stray ≢ Short → IsExact F → Lacks stray F → (term : ℕ) (place : Place) → F.read term place ≡ Err stray → ⊥
-never_read stray F other f n term place e =
-    let b = f.read_break term place stray e other in
-    n.no_break term place.offset b.front b.holds
+pub never_read : (stray : EtfFault) {A : Type 0} (F : Format A) → stray ≢ Short → IsExact F → Lacks stray F → (term : ℕ) (position : Position) → F.read term position ≡ Err stray → ⊥
+never_read stray F other f n term position e =
+    let b = f.read_break term position stray e other in
+    n.no_break term position.offset b.front b.holds

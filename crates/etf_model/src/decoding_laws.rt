@@ -7,6 +7,7 @@ ghost use Rattle.etf_model.specs.Decoding.{IsDecoding};
 ghost use Rattle.etf_model.specs.Spelling.{Spells};
 ghost use Rattle.etf_model.specs.declared.fault.EtfFault.{EtfFault};
 ghost use Rattle.etf_model.specs.declared.fault.EtfFault.TheVariants.{Memory};
+ghost use Rattle.etf_model.specs.declared.tags.TheConstants.{VERSION};
 
 /// Bytes have one decoding, want of memory aside.
 pub fn bytes_have_one_decoding()
@@ -23,5 +24,5 @@ pub fn a_spelling_decodes_to_its_term_whatever_follows()
 /// So does the canonical spelling, which encoding gives.
 pub fn an_encoding_decodes_to_its_term_whatever_follows()
     ensures { (t : TermValue) (rest : List ℕ) (r : Result (TermValue × ℕ) EtfFault)
-        → IsTerm t → IsDecoding ((131 ∷ canonical t) ++ rest) r → r ≢ Err Memory → r ≡ Ok (t, length (131 ∷ canonical t)) }
+        → IsTerm t → IsDecoding ((VERSION ∷ canonical t) ++ rest) r → r ≢ Err Memory → r ≡ Ok (t, length (VERSION ∷ canonical t)) }
 {}

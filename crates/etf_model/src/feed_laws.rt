@@ -1,7 +1,7 @@
 //! Laws of a feed of spellings, as contracts of functions that do nothing.
 ghost use Rattle.std.specs.Prelude.{◌≡◌, ◌≢◌, ℕ, Result, Err, true, List, [], ◌++◌};
 ghost use Rattle.dets_term.specs.TermValue.{TermValue};
-ghost use Rattle.etf_model.specs.FeedState.{FeedState};
+ghost use Rattle.etf_model.specs.SpellingFeed.{SpellingFeed};
 ghost use Rattle.etf_model.specs.History.{Call, empty_feed, IsHistory, fed_bytes, answered_terms, is_finished, EndsBy, StreamGives};
 ghost use Rattle.etf_model.specs.Next.{IsNext};
 ghost use Rattle.etf_model.specs.declared.fault.EtfFault.{EtfFault};
@@ -10,7 +10,7 @@ ghost use Rattle.etf_model.specs.declared.fed.Fed.{Fed};
 
 /// A feed has one answer and one state behind it, want of memory aside.
 pub fn a_feed_has_one_answer()
-    ensures { (s a b : FeedState) (r q : Result Fed EtfFault) → IsNext s a r → IsNext s b q → r ≢ Err Memory → q ≢ Err Memory
+    ensures { (s a b : SpellingFeed) (r q : Result Fed EtfFault) → IsNext s a r → IsNext s b q → r ≢ Err Memory → q ≢ Err Memory
         → (r ≡ q) × (a ≡ b) }
 {}
 

@@ -16,3 +16,4 @@ pub mod feed_laws;
 pub mod laws;
 pub mod rows;
 pub mod skipping_laws;
+pub mod tags;

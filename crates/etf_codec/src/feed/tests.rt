@@ -1,5 +1,5 @@
 ghost use Rattle.std.specs.Prelude.{◌≡◌, ◌<◌, ◌≤◌, ◌+◌, ◌^◌, length, false, OnOk};
-ghost use Rattle.etf_model.specs.FeedState.{total};
+ghost use Rattle.etf_model.specs.SpellingFeed.{total};
 
 use super::TermFeed;
 use crate::{EtfFault, Fed, Memory, encode};

@@ -13,22 +13,22 @@ use Rattle.etf_codec.proofs.encoding.+encode.Goals as goal
 
 pub encode_each-encode_term-requires : goal.encode_each-encode_term-requires
 encode_each-encode_term-requires t c =
-    let less = deepest_bounds c.args.parts.now c.loop-place.place c.in-Some.part.now (sym c.get.ensures ∙ ap option_copied c.in-Some.is) in
+    let less = deepest_bounds c.args.parts.now c.loop-index.index c.in-Some.part.now (sym c.get.ensures ∙ ap option_copied c.in-Some.is) in
     (omega arith, tt)
 
-pub encode_each-loop-place-preserved : goal.encode_each-loop-place-preserved
-encode_each-loop-place-preserved t c =
+pub encode_each-loop-index-preserved : goal.encode_each-loop-index-preserved
+encode_each-loop-index-preserved t c =
     elim c.match-get.branch [
       | encode_each-in-Some+in_ok-encode_term w ↦
-          written-more (flat_map canonical) canonical (λ t ts. refl) c.loop-place.out _ _ c.args.parts.now c.loop-place.place w.in-Some.part.now
-          (sym c.get.ensures ∙ ap option_copied w.in-Some.is) c.loop-place.invariant (w.out-is ∙ w.in_ok-encode_term.ensures)
+          written-more (flat_map canonical) canonical (λ t ts. refl) c.loop-index.out _ _ c.args.parts.now c.loop-index.index w.in-Some.part.now
+          (sym c.get.ensures ∙ ap option_copied w.in-Some.is) c.loop-index.invariant (w.out-is ∙ w.in_ok-encode_term.ensures)
       | encode_each-in_default w ↦
-          absurd (element_within c.args.parts.now c.loop-place.place (omega arith) (sym c.get.ensures ∙ ap option_copied w.in_default.is))
+          absurd (element_within c.args.parts.now c.loop-index.index (omega arith) (sym c.get.ensures ∙ ap option_copied w.in_default.is))
     ]
 
 pub encode_each-returns : goal.encode_each-returns
 encode_each-returns t c =
-    written-all (flat_map canonical) refl c.loop-place.out _ c.args.parts.now c.loop-place.place (omega arith) c.loop-place.invariant
+    written-all (flat_map canonical) refl c.loop-index.out _ c.args.parts.now c.loop-index.index (omega arith) c.loop-index.invariant
 
 pub encode_list-returns-then-are_bytes : goal.encode_list-returns-then-are_bytes
 encode_list-returns-then-are_bytes t c =
@@ -41,29 +41,29 @@ encode_list-returns t c =
 
 pub encode_pairs-encode_term-requires : goal.encode_pairs-encode_term-requires
 encode_pairs-encode_term-requires t c =
-    let less = pair-falls c.args.pairs.now c.loop-place.place c.in-Some.pair.now (sym c.get.ensures ∙ ap option_copied c.in-Some.is) in
+    let less = pair-falls c.args.pairs.now c.loop-index.index c.in-Some.pair.now (sym c.get.ensures ∙ ap option_copied c.in-Some.is) in
     (omega arith, tt)
 
 pub encode_pairs-encode_term-requires-in-Some : goal.encode_pairs-encode_term-requires-in-Some
 encode_pairs-encode_term-requires-in-Some t c =
-    let less = pair-falls c.args.pairs.now c.loop-place.place c.in-Some.pair.now (sym c.get.ensures ∙ ap option_copied c.in-Some.is) in
+    let less = pair-falls c.args.pairs.now c.loop-index.index c.in-Some.pair.now (sym c.get.ensures ∙ ap option_copied c.in-Some.is) in
     (omega arith, tt)
 
-pub encode_pairs-loop-place-preserved : goal.encode_pairs-loop-place-preserved
-encode_pairs-loop-place-preserved t c =
+pub encode_pairs-loop-index-preserved : goal.encode_pairs-loop-index-preserved
+encode_pairs-loop-index-preserved t c =
     elim c.match-get.branch [
       | encode_pairs-in-Some+in_ok-encode_term+in_ok-encode_term-2 w ↦
-          written-more (flat_map (λ p. canonical p.0 ++ canonical p.1)) (λ p. canonical p.0 ++ canonical p.1) (λ p ps. refl) c.loop-place.out _ _ c.args.pairs.now
-          c.loop-place.place w.in-Some.pair.now (sym c.get.ensures ∙ ap option_copied w.in-Some.is) c.loop-place.invariant
+          written-more (flat_map (λ p. canonical p.0 ++ canonical p.1)) (λ p. canonical p.0 ++ canonical p.1) (λ p ps. refl) c.loop-index.out _ _ c.args.pairs.now
+          c.loop-index.index w.in-Some.pair.now (sym c.get.ensures ∙ ap option_copied w.in-Some.is) c.loop-index.invariant
           (w.out-is ∙ w.in_ok-encode_term-2.ensures ∙ ap (λ bytes. bytes ++ canonical w.in-Some.pair.now.1) w.in_ok-encode_term.ensures
-          ∙ append_assoc c.loop-place.out (canonical w.in-Some.pair.now.0) (canonical w.in-Some.pair.now.1))
+          ∙ append_assoc c.loop-index.out (canonical w.in-Some.pair.now.0) (canonical w.in-Some.pair.now.1))
       | encode_pairs-in_default w ↦
-          absurd (element_within c.args.pairs.now c.loop-place.place (omega arith) (sym c.get.ensures ∙ ap option_copied w.in_default.is))
+          absurd (element_within c.args.pairs.now c.loop-index.index (omega arith) (sym c.get.ensures ∙ ap option_copied w.in_default.is))
     ]
 
 pub encode_pairs-returns : goal.encode_pairs-returns
 encode_pairs-returns t c =
-    written-all (flat_map (λ p. canonical p.0 ++ canonical p.1)) refl c.loop-place.out _ c.args.pairs.now c.loop-place.place (omega arith) c.loop-place.invariant
+    written-all (flat_map (λ p. canonical p.0 ++ canonical p.1)) refl c.loop-index.out _ c.args.pairs.now c.loop-index.index (omega arith) c.loop-index.invariant
 
 pub encode_term-encode_arity-requires : goal.encode_term-encode_arity-requires
 encode_term-encode_arity-requires t c =

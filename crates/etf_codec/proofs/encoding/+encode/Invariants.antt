@@ -17,11 +17,11 @@ decreases-encode_pairs l = 3 * deepest_of_pairs l.pairs.now + 1
 abbrev pub decreases-encode_list : goal.decreases-encode_list
 decreases-encode_list l = 3 * deepest l.parts.now + 2
 
--- what is written, and what is left from this place on, are all elements
-abbrev pub invariant-encode_each-loop-place : goal.invariant-encode_each-loop-place
-invariant-encode_each-loop-place l = l.out ++ flat_map canonical (drop l.place l.parts) ≡ l.initial.out ++ flat_map canonical l.parts
+-- what is written, and what is left from this index on, are all elements
+abbrev pub invariant-encode_each-loop-index : goal.invariant-encode_each-loop-index
+invariant-encode_each-loop-index l = l.out ++ flat_map canonical (drop l.index l.parts) ≡ l.initial.out ++ flat_map canonical l.parts
 
-abbrev pub invariant-encode_pairs-loop-place : goal.invariant-encode_pairs-loop-place
-invariant-encode_pairs-loop-place l =
-    l.out ++ flat_map (λ p. canonical p.0 ++ canonical p.1) (drop l.place l.pairs)
+abbrev pub invariant-encode_pairs-loop-index : goal.invariant-encode_pairs-loop-index
+invariant-encode_pairs-loop-index l =
+    l.out ++ flat_map (λ p. canonical p.0 ++ canonical p.1) (drop l.index l.pairs)
     ≡ l.initial.out ++ flat_map (λ p. canonical p.0 ++ canonical p.1) l.pairs

@@ -12,11 +12,11 @@ only_memory-requires c =
     IfErr-ok c.tuple.result _ _ (c.tuple.ensures ∙ built_tuple c.push.new.self 255 (omega arith) (omega (arith, fits.1)) fits.0)
 
 pub returns-then-ahead-eq0-clause-joins : goal.returns-then-ahead-eq0-clause-joins
-returns-then-ahead-eq0-clause-joins c begun place =
+returns-then-ahead-eq0-clause-joins c begun position =
     let fits = fit_last c.args.parts c.push.new.self c.args.part c.args.ahead 255 c.in_ok-push.ensures.ok c.requires.frame c.requires.part in
     let made = one_made c.tuple.result c.in_ok-tuple.tuple _ c.in_ok-tuple.ensures.ok (c.tuple.ensures ∙ built_tuple c.push.new.self 255 (omega arith) (omega (arith, fits.1)) fits.0) in
-    element_ends c.args.ahead c.args.start c.args.at c.args.parts c.push.new.self c.args.part c.if-ahead-eq0.true c.in_ok-push.ensures.ok begun place
-    ∙ ap (λ whole. resume begun c.args.start whole place) (sym made)
+    element_ends c.args.ahead c.args.start c.args.at c.args.parts c.push.new.self c.args.part c.if-ahead-eq0.true c.in_ok-push.ensures.ok begun position
+    ∙ ap (λ whole. resume begun c.args.start whole position) (sym made)
 
 pub returns-then-ahead-eq0-clause-within : goal.returns-then-ahead-eq0-clause-within
 returns-then-ahead-eq0-clause-within c levels l fits part =
@@ -26,8 +26,8 @@ returns-then-ahead-eq0-clause-within c levels l fits part =
     (shallow, λ outer may. part_fits outer (levels + 1) c.in_ok-tuple.tuple shallow (ap elements made))
 
 pub returns-clause-joins : goal.returns-clause-joins
-returns-clause-joins c begun place =
-    element_goes_on c.args.ahead c.args.start c.args.at c.args.parts c.push.new.self c.args.part (omega arith) c.in_ok-push.ensures.ok begun place
+returns-clause-joins c begun position =
+    element_goes_on c.args.ahead c.args.start c.args.at c.args.parts c.push.new.self c.args.part (omega arith) c.in_ok-push.ensures.ok begun position
 
 pub returns-clause-within : goal.returns-clause-within
 returns-clause-within c levels l fits part = (

@@ -3,8 +3,8 @@ use Rattle.etf_codec.proofs.JoinSteps.{fit_more, fit_last, may_go_on, may_end, i
 use Rattle.etf_codec.proofs.joining.join_item.Goals as goal
 
 pub returns-then-ahead-eq0-clause-joins : goal.returns-then-ahead-eq0-clause-joins
-returns-then-ahead-eq0-clause-joins c begun place =
-    items_end c.args.ahead c.args.start c.args.at c.args.parts c.push.new.self c.args.part c.if-ahead-eq0.true c.in_ok-push.ensures.ok begun place
+returns-then-ahead-eq0-clause-joins c begun position =
+    items_end c.args.ahead c.args.start c.args.at c.args.parts c.push.new.self c.args.part c.if-ahead-eq0.true c.in_ok-push.ensures.ok begun position
 
 pub returns-then-ahead-eq0-clause-within : goal.returns-then-ahead-eq0-clause-within
 returns-then-ahead-eq0-clause-within c levels l fits part = (
@@ -13,8 +13,8 @@ returns-then-ahead-eq0-clause-within c levels l fits part = (
 )
 
 pub returns-clause-joins : goal.returns-clause-joins
-returns-clause-joins c begun place =
-    item_goes_on c.args.ahead c.args.start c.args.at c.args.parts c.push.new.self c.args.part (omega arith) c.in_ok-push.ensures.ok begun place
+returns-clause-joins c begun position =
+    item_goes_on c.args.ahead c.args.start c.args.at c.args.parts c.push.new.self c.args.part (omega arith) c.in_ok-push.ensures.ok begun position
 
 pub returns-clause-within : goal.returns-clause-within
 returns-clause-within c levels l fits part = (

@@ -13,11 +13,11 @@ only_memory-requires c =
     c.list_with_tail.ensures)
 
 pub returns-clause-joins : goal.returns-clause-joins
-returns-clause-joins c begun place =
+returns-clause-joins c begun position =
     let made = one_made_or c.list_with_tail.result Memory c.in_ok-list.list (chain c.args.parts c.args.part) c.in_ok-list.ensures.ok
     (or_else (λ e. e ∙ built_list c.args.parts c.args.part 255 (omega arith) (omega (arith, c.requires.frame.1)) c.requires.part.1 c.requires.frame.0 c.requires.part.0)
     c.list_with_tail.ensures) in
-    ap (λ whole. resume begun c.args.start whole place) (sym made)
+    ap (λ whole. resume begun c.args.start whole position) (sym made)
 
 pub returns-clause-within : goal.returns-clause-within
 returns-clause-within c levels l fits part =

@@ -15,6 +15,6 @@ decreases-skip_counted l = 4 * l.levels + 2
 abbrev pub decreases-skip_parts : goal.decreases-skip_parts
 decreases-skip_parts l = 4 * l.levels + 1
 
--- the terms that are left stand at the place so far
+-- the terms that are left stand at the position so far
 abbrev pub invariant-skip_parts-loop : goal.invariant-skip_parts-loop
 invariant-skip_parts-loop l = (term : ℕ) → (parts (skipped_at l.levels) l.count).read term l.fn.cursor ≡ (parts (skipped_at l.levels) (l.count - l.counter)).read term l.cursor

@@ -2,7 +2,7 @@ use Rattle.std.proofs.Common.{◌≡◌, ℕ, List, Result, Ok, Err, refl, ap, s
 use Rattle.std.specs.Result.{IsErrAnd, IfErr}
 use Rattle.etf_model.specs.declared.fault.EtfFault.{EtfFault}
 use Rattle.etf_model.specs.declared.fault.EtfFault.TheVariants.{Short, NotVersion, Unsupported, Compressed, IntegerRange, BadAtom, BadBits, RepeatedKey, Depth, LongTerm, Memory}
-use Rattle.etf_model.specs.Format.{Place}
+use Rattle.etf_model.specs.Format.{Position}
 use Rattle.etf_model.specs.Answers.{IsFront}
 use Rattle.etf_model.specs.Skipping.{skipped, SkipsBy, IsSkipFault}
 use Rattle.etf_model.specs.SkippingExact.{skipped-exact, skip_break-told, skipped_needs_no_memory}
@@ -15,10 +15,10 @@ refused bytes fault e = (
   fault_read skipped skipped-exact 0 bytes fault e,
 )
 
-answered : (bytes : List ℕ) (place : Place) (fault : EtfFault) (answer : Result ℕ EtfFault) → place ≡ record { offset = 0; left = bytes }
-    → IsErrAnd answer (λ y. y ≡ fault) → skipped.read 0 place ≡ Err fault → SkipsBy bytes answer
-answered bytes place fault (Ok count) begins h e = absurd h
-answered bytes place fault (Err why) begins h e = refused bytes why (ap (skipped.read 0) (sym begins) ∙ e ∙ ap Err (sym h))
+answered : (bytes : List ℕ) (position : Position) (fault : EtfFault) (answer : Result ℕ EtfFault) → position ≡ record { offset = 0; left = bytes }
+    → IsErrAnd answer (λ y. y ≡ fault) → skipped.read 0 position ≡ Err fault → SkipsBy bytes answer
+answered bytes position fault (Ok count) begins h e = absurd h
+answered bytes position fault (Err why) begins h e = refused bytes why (ap (skipped.read 0) (sym begins) ∙ e ∙ ap Err (sym h))
 
 pub returns-in_err-skip_term-clause-skips : goal.returns-in_err-skip_term-clause-skips
 returns-in_err-skip_term-clause-skips c =
@@ -48,6 +48,6 @@ returns-in_err-skip_term-clause-faults c = told_answer c.args.bytes.now _ (retur
 
 pub returns-clause-skips : goal.returns-clause-skips
 returns-clause-skips c =
-    subst (λ (p : Place). IsFront skipped p.left tt c.offset.result) c.new-cursor.ensures
-    (front_read skipped skipped-exact 0 c.new-cursor.result c.skip_term.new.cursor tt c.offset.result (ap (λ (p : Place). p.offset) c.new-cursor.ensures)
+    subst (λ (p : Position). IsFront skipped p.left tt c.offset.result) c.new-cursor.ensures
+    (front_read skipped skipped-exact 0 c.new-cursor.result c.skip_term.new.cursor tt c.offset.result (ap (λ (p : Position). p.offset) c.new-cursor.ensures)
     (sym c.offset.ensures ∙ omega arith) (c.in_ok-skip_term.ensures 0))

@@ -2,7 +2,8 @@ use Rattle.std.proofs.Common.{ℕ, ◌≡◌, ◌≢◌, ◌∙◌, true, false,
 use Rattle.std.proofs.lemmas.Bool.Decides.{nat_tests}
 use Rattle.etf_model.specs.declared.fault.EtfFault.{EtfFault}
 use Rattle.etf_model.specs.declared.fault.EtfFault.TheVariants.{Unsupported}
-use Rattle.etf_model.specs.Format.{Format, Place, byte, followed, either}
+use Rattle.etf_model.specs.declared.tags.TheConstants.{ATOM, SMALL_ATOM, ATOM_UTF8, SMALL_ATOM_UTF8}
+use Rattle.etf_model.specs.Format.{Format, Position, byte, followed, either}
 use Rattle.etf_model.specs.Spelling.{tag_of}
 use Rattle.etf_model.specs.Skipping.{begins_node, sized_gap, node}
 use Rattle.etf_codec.specs.Reads.{Reads}
@@ -14,10 +15,10 @@ abbrev refuse : ℕ → ℕ → EtfFault
 refuse term x = Unsupported term x
 
 abbrev name : ℕ → Format (Unit {0})
-name tag = either (tag == 115 || tag == 119) (sized_gap 1 0) (sized_gap 2 0)
+name tag = either (tag == SMALL_ATOM || tag == SMALL_ATOM_UTF8) (sized_gap 1 0) (sized_gap 2 0)
 
 -- a tag that is known
-node_at : (k term : ℕ) (before between behind : Place) (tag : ℕ) (answer : Result (Unit {0}) EtfFault)
+node_at : (k term : ℕ) (before between behind : Position) (tag : ℕ) (answer : Result (Unit {0}) EtfFault)
     → byte.read before.offset before ≡ Ok (tag, between) → tag ≡ k → begins_node k ≡ true → Reads (name k) before.offset between behind answer
     → Reads node term before behind answer
 node_at k term before between behind tag answer e same known h =
@@ -25,7 +26,7 @@ node_at k term before between behind tag answer e same known h =
     (reads_tagged begins_node refuse name before.offset before between behind k answer
     (subst (λ t. byte.read before.offset before ≡ Ok (t, between)) same e) known h)
 
-no_node : (tag : ℕ) → tag ≢ 100 → tag ≢ 115 → tag ≢ 118 → tag ≢ 119 → begins_node tag ≡ false
+no_node : (tag : ℕ) → tag ≢ ATOM → tag ≢ SMALL_ATOM → tag ≢ ATOM_UTF8 → tag ≢ SMALL_ATOM_UTF8 → begins_node tag ≡ false
 no_node tag a b d e = grind (arith, nat_tests)
 
 pub returns-in_err-tag : goal.returns-in_err-tag
@@ -39,10 +40,10 @@ returns-in-100 c term =
 
 pub returns-in_default : goal.returns-in_default
 returns-in_default c term =
-    let no_100 : c.in_ok-tag.tag ≢ 100 = omega arith in
-    let no_118 : c.in_ok-tag.tag ≢ 118 = omega arith in
-    let no_115 : c.in_ok-tag.tag ≢ 115 = omega arith in
-    let no_119 : c.in_ok-tag.tag ≢ 119 = omega arith in
+    let no_100 : c.in_ok-tag.tag ≢ ATOM = omega arith in
+    let no_118 : c.in_ok-tag.tag ≢ ATOM_UTF8 = omega arith in
+    let no_115 : c.in_ok-tag.tag ≢ SMALL_ATOM = omega arith in
+    let no_119 : c.in_ok-tag.tag ≢ SMALL_ATOM_UTF8 = omega arith in
     tag_refused begins_node refuse name c.args.cursor.now.offset c.args.cursor.now c.byte.new.self c.in_ok-tag.tag (c.in_ok-tag.ensures.reads term) (no_node c.in_ok-tag.tag no_100 no_115 no_118 no_119)
     ∙ ap (λ at. Err (Unsupported at c.in_ok-tag.tag)) (sym c.offset-at.ensures)
 

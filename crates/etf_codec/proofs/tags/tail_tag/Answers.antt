@@ -1,7 +1,7 @@
 use Rattle.std.proofs.Common.{Err, ap, sym, ◌∙◌}
 use Rattle.etf_model.specs.declared.fault.EtfFault.TheVariants.{Unsupported}
 use Rattle.etf_model.specs.Layout.{begins_tail}
-use Rattle.etf_codec.specs.declared.tags.Position.TheVariants.{Tail}
+use Rattle.etf_codec.specs.declared.tags.Role.TheVariants.{Tail}
 use Rattle.etf_codec.proofs.TermSteps.{term_refused, term_fails}
 use Rattle.etf_codec.proofs.TagSteps.{tag_follows, tag_fault}
 use Rattle.etf_codec.proofs.tags.tail_tag.Goals as goal

@@ -17,7 +17,7 @@ loop-innermost-preserved c =
     (subst (λ j. JoinsTo c.in-Some.innermost c.loop-innermost.at c.loop-innermost.term (Ok j)) c.in-Whole.is c.in_ok-joined.ensures.joins)
     (subst (λ j. (levels : ℕ) → levels ≤ 255 → FrameFits c.in-Some.innermost.frame levels → PartFits c.in-Some.innermost.frame levels c.loop-innermost.term → JoinsWithin c.in-Some.innermost levels (Ok j)) c.in-Whole.is
     c.in_ok-joined.ensures.within) in
-    (step.0, step.1, λ place. c.loop-innermost.invariant.2 place ∙ step.2 place)
+    (step.0, step.1, λ position. c.loop-innermost.invariant.2 position ∙ step.2 position)
 
 pub returns-in-Open : goal.returns-in-Open
 returns-in-Open c =
@@ -26,4 +26,4 @@ returns-in-Open c =
     (subst (λ j. JoinsTo c.in-Some.innermost c.loop-innermost.at c.loop-innermost.term (Ok j)) c.in-Open.is c.in_ok-joined.ensures.joins)
     (subst (λ j. (levels : ℕ) → levels ≤ 255 → FrameFits c.in-Some.innermost.frame levels → PartFits c.in-Some.innermost.frame levels c.loop-innermost.term → JoinsWithin c.in-Some.innermost levels (Ok j)) c.in-Open.is
     c.in_ok-joined.ensures.within) in
-    (step.0, λ place. c.loop-innermost.invariant.2 place ∙ step.1 place)
+    (step.0, λ position. c.loop-innermost.invariant.2 position ∙ step.1 position)

@@ -1,6 +1,7 @@
 use Rattle.std.proofs.Common.{◌≡◌, ◌==◌, ◌∙◌, false, Err, ap, sym, arith}
 use Rattle.std.proofs.lemmas.Bool.Decides.{nat_tests}
 use Rattle.etf_model.specs.declared.fault.EtfFault.TheVariants.{Short, NotVersion}
+use Rattle.etf_model.specs.declared.tags.TheConstants.{VERSION}
 use Rattle.etf_codec.proofs.Bytes.{go_on_err, test_fails}
 use Rattle.etf_codec.proofs.ReaderSteps.{version_there, version_missing}
 use Rattle.etf_codec.proofs.term_reader.read_version.Goals as goal
@@ -12,7 +13,7 @@ returns-in_err-version-clause-reads c =
 pub returns-then-version-clause-reads : goal.returns-then-version-clause-reads
 returns-then-version-clause-reads c =
     let apart : (c.in_ok-version.version == 131) ≡ false = grind (arith, nat_tests) in (
-      go_on_err _ _ _ (test_fails _ c.in_ok-version.version c.byte.new.self (λ x. x == 131) (λ x. NotVersion c.args.cursor.now.offset) (c.in_ok-version.ensures.reads c.args.cursor.now.offset) apart)
+      go_on_err _ _ _ (test_fails _ c.in_ok-version.version c.byte.new.self (λ x. x == VERSION) (λ x. NotVersion c.args.cursor.now.offset) (c.in_ok-version.ensures.reads c.args.cursor.now.offset) apart)
           ∙ ap (λ start. Err (NotVersion start)) (sym c.offset-start.ensures),
       λ short. let clash : NotVersion c.offset-start.result ≡ Short = short in cc,
     )

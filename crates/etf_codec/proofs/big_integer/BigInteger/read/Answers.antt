@@ -19,7 +19,7 @@ returns-in_err-magnitude-clause-reads c =
     integer_passes c.args.self.now c.loop-self.self c.args.cursor.now c.loop-self.cursor c.loop-self.invariant.4 c.loop-self.self c.byte.new.self
     c.from_residual-in_err-magnitude.result c.in_err-magnitude.field-0.0 c.in_ok-digit.digit c.from_residual-in_err-magnitude.ensures.1 (past.1 ∙ ap IntegerRange c.loop-self.invariant.1)
     c.loop-self.invariant.1 (omega (arith, c.loop-self-test.true, c.loop-self.invariant.3)) (c.in_ok-digit.ensures.reads c.loop-self.self.start)
-    (subst (λ n. n < c.loop-self.self.magnitude + 256 ^ c.loop-self.self.place * c.in_ok-digit.digit) most past.0)
+    (subst (λ n. n < c.loop-self.self.magnitude + 256 ^ c.loop-self.self.index * c.in_ok-digit.digit) most past.0)
 
 pub loop-self-preserved : goal.loop-self-preserved
 loop-self-preserved c =

@@ -9,4 +9,4 @@ invariant-loop-self l = IsBig l.self × (l.self.start ≡ l.fn.self.start) × (l
     × GoesOn (integer_read l.fn.self) (integer_read l.self) l.fn.cursor l.cursor
 
 abbrev pub decreases-loop-self : goal.decreases-loop-self
-decreases-loop-self l = l.self.length - l.self.place
+decreases-loop-self l = l.self.length - l.self.index

@@ -1,5 +1,5 @@
 use Rattle.std.proofs.Common.{◌≡◌, ◌+◌, ◌*◌, false}
-use Rattle.etf_model.specs.FeedState.{total}
+use Rattle.etf_model.specs.SpellingFeed.{total}
 use Rattle.etf_codec.proofs.feed.tests.a_spelling_has_at_most_16_777_216_bytes.Given as goal
 
 abbrev pub invariant-loop : goal.invariant-loop

@@ -1,5 +1,5 @@
 use Rattle.std.proofs.Common.{◌≡◌, ◌+◌, false}
-use Rattle.etf_model.specs.FeedState.{total}
+use Rattle.etf_model.specs.SpellingFeed.{total}
 use Rattle.etf_codec.proofs.feed.tests.feed_part.Given as goal
 
 abbrev pub invariant-loop-byte : goal.invariant-loop-byte

@@ -17,11 +17,11 @@ returns-in-Whole-clause-reads c =
     c.requires.stage c.offset-start.ensures
     (subst (λ h. NextReads c.args.self.now.begun.items c.args.cursor.now c.read_next.new.cursor (Ok h)) c.in-Whole.is c.in_ok-head.ensures.reads) c.complete.ensures
 
-pub returns-in_ok-push_begun-in-Begun-clause-reads : goal.returns-in_ok-push_begun-in-Begun-clause-reads
-returns-in_ok-push_begun-in-Begun-clause-reads c =
-    part_opens c.args.self.now c.requires.reader c.requires.stage c.args.cursor.now (record { stage = c.args.self.now.stage; begun = c.push_begun.new.begun }) c.read_next.new.cursor c.offset-start.result c.in-Begun.frame
-    c.requires.stage c.offset-start.ensures c.in_ok-push_begun-in-Begun.ensures.ok
-    (subst (λ h. NextReads c.args.self.now.begun.items c.args.cursor.now c.read_next.new.cursor (Ok h)) c.in-Begun.is c.in_ok-head.ensures.reads)
+pub returns-in_ok-push_begun-in-Open-clause-reads : goal.returns-in_ok-push_begun-in-Open-clause-reads
+returns-in_ok-push_begun-in-Open-clause-reads c =
+    part_opens c.args.self.now c.requires.reader c.requires.stage c.args.cursor.now (record { stage = c.args.self.now.stage; begun = c.push_begun.new.begun }) c.read_next.new.cursor c.offset-start.result c.in-Open.frame
+    c.requires.stage c.offset-start.ensures c.in_ok-push_begun-in-Open.ensures.ok
+    (subst (λ h. NextReads c.args.self.now.begun.items c.args.cursor.now c.read_next.new.cursor (Ok h)) c.in-Open.is c.in_ok-head.ensures.reads)
 
 pub returns-in-Number-clause-reads : goal.returns-in-Number-clause-reads
 returns-in-Number-clause-reads c =
