@@ -1,5 +1,6 @@
 -- Runs of bytes and big-endian numbers, as formats read them.
-use Rattle.std.proofs.Common.{◌≡◌, ℕ, zero, suc, ◌+◌, ◌*◌, ◌-◌, ◌^◌, ◌<◌, ◌≤◌, List, [], ◌∷◌, length, take, drop, Ok, Err, refl, ap, ◌∙◌, arith, add-one, Bool, true, false, cond}
+use Rattle.std.proofs.Common.{◌≡◌, ℕ, zero, suc, ◌+◌, ◌*◌, ◌-◌, ◌^◌, ◌<◌, ◌≤◌, List, [], ◌∷◌, length, take, drop, Ok, Err, refl, ap, ◌∙◌, arith, add-one, Bool}
+use Rattle.std.proofs.Common.{true, false, cond}
 use Rattle.std.proofs.Math.Nat.{pow-succ'}
 use Rattle.std.proofs.lemmas.List.{take_rest, drop-drop}
 use Rattle.etf_model.specs.declared.fault.EtfFault.{EtfFault}
@@ -40,13 +41,15 @@ pow_256_le (suc (suc (suc zero))) h = omega arith
 pow_256_le (suc (suc (suc (suc n)))) h = absurd (omega arith)
 
 -- some of the bytes behind a position
-pub times_byte_at : (start n at : ℕ) (term : ℕ) (bytes : List ℕ) (position : Position) → position_at start bytes at ≡ position → n ≤ length (take (length bytes - at) (drop at bytes))
+pub times_byte_at : (start n at : ℕ) (term : ℕ) (bytes : List ℕ) (position : Position) → position_at start bytes at ≡ position
+    → n ≤ length (take (length bytes - at) (drop at bytes))
     → (times n byte).read term position ≡ Ok (take n (take (length bytes - at) (drop at bytes)), position_at start bytes (at + n))
 times_byte_at start n at term bytes position e h =
     let behind : start + at + n ≡ start + (at + n) = omega arith in
     rw (← e, take_rest, ← drop-drop n at bytes, ← behind) (times_byte n term (start + at) (drop at bytes) (rw (← take_rest bytes at) h))
 
-pub times_byte_at_end : (start n at : ℕ) (term : ℕ) (bytes : List ℕ) (position : Position) → position_at start bytes at ≡ position → length (take (length bytes - at) (drop at bytes)) < n
+pub times_byte_at_end : (start n at : ℕ) (term : ℕ) (bytes : List ℕ) (position : Position) → position_at start bytes at ≡ position
+    → length (take (length bytes - at) (drop at bytes)) < n
     → (times n byte).read term position ≡ Err Short
 times_byte_at_end start n at term bytes position e h = rw (← e) (times_byte_short n term (start + at) (drop at bytes) (rw (← take_rest bytes at) h))
 

@@ -1,5 +1,6 @@
 -- The canonical spelling of lists by the lists of their elements; how many parts terms have, and how deep they are.
-use Rattle.std.proofs.Common.{◌≡◌, ℕ, zero, suc, ◌-◌, ◌^◌, ◌<◌, ◌≤◌, true, false, ◌&&◌, max, List, [], ◌∷◌, ◌++◌, length, map, slice_get, Some, refl, ap, ◌∙◌, subst, arith}
+use Rattle.std.proofs.Common.{◌≡◌, ℕ, zero, suc, ◌-◌, ◌^◌, ◌<◌, ◌≤◌, true, false, ◌&&◌, max, List, [], ◌∷◌, ◌++◌, length, map, slice_get, Some, refl, ap, ◌∙◌}
+use Rattle.std.proofs.Common.{subst, arith}
 use Rattle.std.specs.List.{concat, flat_map}
 use Rattle.std.proofs.lemmas.Bool.{cond-true, cond-false, and_from, and_left, and_right}
 use Rattle.std.proofs.lemmas.List.{length-map}
@@ -31,7 +32,8 @@ is_proper-chain : (ts : List TermValue) (tail : TermValue) → is_proper (chain 
 is_proper-chain [] tail = refl
 is_proper-chain (t ∷ ts) tail = is_proper-chain ts tail
 
-canonical-cons : (ts : List TermValue) (tail : TermValue) → 0 < length ts → canonical (chain ts tail) ≡ list_spelling (chain ts tail) (canonical_each (chain ts tail)) (canonical_end (chain ts tail))
+canonical-cons : (ts : List TermValue) (tail : TermValue) → 0 < length ts
+    → canonical (chain ts tail) ≡ list_spelling (chain ts tail) (canonical_each (chain ts tail)) (canonical_end (chain ts tail))
 canonical-cons [] tail h = absurd (omega arith)
 canonical-cons (t ∷ ts) tail h = refl
 
@@ -44,7 +46,8 @@ canonical-string ts h bytes =
     ∙ ap (λ us. head STRING 2 (length us) ++ map byte_value us) (elements-chain ts)
 
 -- by the tag of lists
-listed : (ts : List TermValue) (tail : TermValue) → 0 < length ts → canonical_each tail ≡ [] → (is_proper (chain ts tail) && are_bytes (elements (chain ts tail))) ≡ false
+listed : (ts : List TermValue) (tail : TermValue) → 0 < length ts → canonical_each tail ≡ []
+    → (is_proper (chain ts tail) && are_bytes (elements (chain ts tail))) ≡ false
     → canonical (chain ts tail) ≡ head LIST 4 (length ts) ++ (flat_map canonical ts ++ canonical_end tail)
 listed ts tail h none other =
     canonical-cons ts tail h
@@ -53,10 +56,12 @@ listed ts tail h none other =
     ∙ ap (λ bytes. head LIST 4 (length ts) ++ (bytes ++ canonical_end (chain ts tail))) (concat-canonical_each ts tail none)
     ∙ ap (λ bytes. head LIST 4 (length ts) ++ (flat_map canonical ts ++ bytes)) (canonical_end-chain ts tail)
 
-pub canonical-list : (ts : List TermValue) → 0 < length ts → are_bytes ts ≡ false → canonical (chain ts nil) ≡ head LIST 4 (length ts) ++ (flat_map canonical ts ++ NIL ∷ [])
+pub canonical-list : (ts : List TermValue) → 0 < length ts → are_bytes ts ≡ false
+    → canonical (chain ts nil) ≡ head LIST 4 (length ts) ++ (flat_map canonical ts ++ NIL ∷ [])
 canonical-list ts h other = listed ts nil h refl (and_right _ _ (ap are_bytes (elements-chain ts) ∙ other))
 
-pub canonical-improper : (ts : List TermValue) (tail : TermValue) → 0 < length ts → is_list tail ≡ false → canonical (chain ts tail) ≡ head LIST 4 (length ts) ++ (flat_map canonical ts ++ canonical tail)
+pub canonical-improper : (ts : List TermValue) (tail : TermValue) → 0 < length ts → is_list tail ≡ false
+    → canonical (chain ts tail) ≡ head LIST 4 (length ts) ++ (flat_map canonical ts ++ canonical tail)
 canonical-improper ts tail h e =
     listed ts tail h (canonical_each-not_list tail e) (and_left _ _ (is_proper-chain ts tail ∙ is_proper-not_list tail e))
     ∙ ap (λ bytes. head LIST 4 (length ts) ++ (flat_map canonical ts ++ bytes)) (canonical_end-not_list tail e)
@@ -98,11 +103,13 @@ list-falls t ts e = ap depth e ∙ ap suc (parts_depth-chain ts)
 pub map-falls : (t : TermValue) (ps : List (TermValue × TermValue)) → t ≡ map_of ps → depth t ≡ suc (deepest_of_pairs ps)
 map-falls t ps e = ap depth e ∙ ap suc (parts_depth-map_of ps)
 
-pub improper-falls : (t : TermValue) (ts : List TermValue) (tail : TermValue) → 0 < length ts → is_list tail ≡ false → t ≡ chain ts tail → depth t ≡ suc (max (deepest ts) (depth tail))
+pub improper-falls : (t : TermValue) (ts : List TermValue) (tail : TermValue) → 0 < length ts → is_list tail ≡ false → t ≡ chain ts tail
+    → depth t ≡ suc (max (deepest ts) (depth tail))
 improper-falls t ts tail h other e = ap depth e ∙ ap suc (parts_depth-improper ts tail h other)
 
 -- no key and no value is deeper than the deepest
-pub pair-falls : (ps : List (TermValue × TermValue)) (n : ℕ) (p : TermValue × TermValue) → slice_get ps n ≡ Some p → (depth p.0 ≤ deepest_of_pairs ps) × (depth p.1 ≤ deepest_of_pairs ps)
+pub pair-falls : (ps : List (TermValue × TermValue)) (n : ℕ) (p : TermValue × TermValue) → slice_get ps n ≡ Some p
+    → (depth p.0 ≤ deepest_of_pairs ps) × (depth p.1 ≤ deepest_of_pairs ps)
 pair-falls [] n p e = cc
 pair-falls (q ∷ ps) zero p e =
     let same : q ≡ p = cc in

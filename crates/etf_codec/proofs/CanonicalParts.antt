@@ -1,5 +1,6 @@
 -- What the functions of encoding write of a term's parts: integers, atoms, and the elements of lists.
-use Rattle.std.proofs.Common.{◌≡◌, ℕ, zero, suc, ◌+◌, ◌^◌, ◌<◌, ◌≤◌, ℤ, pos, true, false, cond, List, [], ◌∷◌, ◌++◌, length, drop, Option, Some, None, slice_get, Bor, leb, ltb, refl, sym, ap, ◌∙◌, ⊎_elim, arith, append_assoc}
+use Rattle.std.proofs.Common.{◌≡◌, ℕ, zero, suc, ◌+◌, ◌^◌, ◌<◌, ◌≤◌, ℤ, pos, true, false, cond, List, [], ◌∷◌, ◌++◌, length, drop, Option, Some, None}
+use Rattle.std.proofs.Common.{slice_get, Bor, leb, ltb, refl, sym, ap, ◌∙◌, ⊎_elim, arith, append_assoc}
 use Rattle.std.specs.Prelude.{negsuc, unsigned_abs, int_lt}
 use Rattle.std.specs.List.{list_all}
 use Rattle.std.specs.Option.{is_some, option_copied, MatchOption}
@@ -64,7 +65,8 @@ written-more F f cons out new total xs n x e before more =
     ∙ ap (λ bytes. out ++ bytes) (sym (cons x (drop (n + 1) xs)) ∙ ap F (sym (drop-get xs n x e)))
     ∙ before
 
-pub written-all : {X : Type 0} (F : List X → List ℕ) → F [] ≡ [] → (out total : List ℕ) (xs : List X) (n : ℕ) → length xs ≤ n → out ++ F (drop n xs) ≡ total → out ≡ total
+pub written-all : {X : Type 0} (F : List X → List ℕ) → F [] ≡ [] → (out total : List ℕ) (xs : List X) (n : ℕ) → length xs ≤ n → out ++ F (drop n xs) ≡ total
+    → out ≡ total
 written-all F none out total xs n h all =
     sym (append-nil out) ∙ ap (λ bytes. out ++ bytes) (sym (ap F (drop-end xs n h) ∙ none)) ∙ all
 
@@ -83,7 +85,8 @@ is_byte-other (Bits bytes used) sound other = refl
 
 -- what the code's look at an element says
 pub byte-some : (t : TermValue) (x : ℕ) → Some x ≡ cond (is_byte t) (Some (byte_value t)) None → (is_byte t ≡ true) × (x ≡ byte_value t)
-byte-some t x e = elim (is_byte t) as (λ b. Some x ≡ cond b (Some (byte_value t)) None → (b ≡ true) × (x ≡ byte_value t)) [ true ↦ λ h. (refl, cc) | false ↦ λ h. cc ] e
+byte-some t x e =
+    elim (is_byte t) as (λ b. Some x ≡ cond b (Some (byte_value t)) None → (b ≡ true) × (x ≡ byte_value t)) [ true ↦ λ h. (refl, cc) | false ↦ λ h. cc ] e
 
 pub byte-is_some : (t : TermValue) (o : Option ℕ) → o ≡ cond (is_byte t) (Some (byte_value t)) None → is_some o ≡ is_byte t
 byte-is_some t o e = ap is_some e ∙ (elim (is_byte t) as (λ b. is_some (cond b (Some (byte_value t)) None) ≡ b) [ true ↦ refl | false ↦ refl ])

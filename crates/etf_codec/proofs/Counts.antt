@@ -9,7 +9,8 @@ use Rattle.etf_codec.proofs.Bytes.{go_on_ok, go_on_err}
 
 -- where there may be parts, their number is read as any number is
 pub count_after_true : (value n : ℕ) (term offset : ℕ) (bytes : List ℕ)
-    → (count_after true value n).read term (record { offset = offset; left = bytes }) ≡ (number_after value n).read term (record { offset = offset; left = bytes })
+    → (count_after true value n).read term (record { offset = offset; left = bytes }) ≡ (number_after value n).read term
+    (record { offset = offset; left = bytes })
 count_after_true value zero term offset bytes = refl
 count_after_true value (suc n) term offset [] = refl
 count_after_true value (suc n) term offset (x ∷ bytes) = count_after_true (256 * value + x) n term (offset + 1) bytes
@@ -19,7 +20,8 @@ count_number zero size term position h = absurd (omega arith)
 count_number (suc levels) size term position h = count_after_true 0 size term position.offset position.left
 
 -- what follows of no level: no byte but 0
-pub count_none : (levels size : ℕ) (term : ℕ) (position : Position) → levels ≤ 0 → (count levels size).read term position ≡ (count_after false 0 size).read term position
+pub count_none : (levels size : ℕ) (term : ℕ) (position : Position) → levels ≤ 0
+    → (count levels size).read term position ≡ (count_after false 0 size).read term position
 count_none zero size term position h = refl
 count_none (suc levels) size term position h = absurd (omega arith)
 

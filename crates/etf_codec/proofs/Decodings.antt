@@ -27,7 +27,8 @@ module _ (bytes : List ℕ) (reader : TermReader) (fresh : IsFresh reader) (star
       front_read spelling spelling-exact 0 (record { offset = 0; left = bytes }) behind t n refl size (sym from_front ∙ e)
 
   -- a fault, or want of memory
-  pub not_decoded : (answer : Result (TermValue × ℕ) EtfFault) (fault : EtfFault) → IsErrAnd answer (λ y. y ≡ fault) → (fault ≡ Memory) ⊎ (reads_on reader start ≡ Err fault) → IsDecoding bytes answer
+  pub not_decoded : (answer : Result (TermValue × ℕ) EtfFault) (fault : EtfFault) → IsErrAnd answer (λ y. y ≡ fault)
+      → (fault ≡ Memory) ⊎ (reads_on reader start ≡ Err fault) → IsDecoding bytes answer
   not_decoded (Ok t) fault h e = absurd h
   not_decoded (Err y) fault h (inl memory) = subst (λ f. IsDecoding bytes (Err f)) (sym (h ∙ memory)) tt
   not_decoded (Err y) fault h (inr e) = subst (λ f. IsDecoding bytes (Err f)) (sym h) (fault_read spelling spelling-exact 0 bytes fault (sym from_front ∙ e))

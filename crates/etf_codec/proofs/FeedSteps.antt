@@ -1,5 +1,6 @@
 -- What a feed of spellings keeps where it reads on.
-use Rattle.std.proofs.Common.{◌≡◌, ◌≢◌, ◌⊎◌, ℕ, ◌+◌, ◌-◌, ◌<◌, ◌≤◌, ◌^◌, true, List, [], ◌++◌, length, take, drop, min, Option, Some, None, Result, Ok, Err, refl, ap, sym, ◌∙◌, subst, inl, inr, arith, append_assoc, length-append}
+use Rattle.std.proofs.Common.{◌≡◌, ◌≢◌, ◌⊎◌, ℕ, ◌+◌, ◌-◌, ◌<◌, ◌≤◌, ◌^◌, true, List, [], ◌++◌, length, take, drop, min, Option, Some, None, Result, Ok, Err}
+use Rattle.std.proofs.Common.{refl, ap, sym, ◌∙◌, subst, inl, inr, arith, append_assoc, length-append}
 use Rattle.std.proofs.lemmas.List.{take_all, take_min, take_at, take-append-le, take-append-drop, length-take, length-take-le, length-drop}
 use Rattle.std.proofs.Math.Seq.{take-add}
 use Rattle.dets_term.specs.TermValue.{TermValue}
@@ -56,7 +57,8 @@ front_parts items read there few =
 abbrev pub behind_read : Inside → Position
 behind_read a = record { offset = a.offset + a.read; left = take (min (length a.left.items) longest - a.read) (drop a.read a.left.items) }
 
-pub placed : (a : Inside) (before : Position) (read end size : ℕ) (held : List ℕ) → before ≡ record { offset = a.offset + read; left = take (end - read) (drop read held) }
+pub placed : (a : Inside) (before : Position) (read end size : ℕ) (held : List ℕ)
+    → before ≡ record { offset = a.offset + read; left = take (end - read) (drop read held) }
     → read ≡ a.read → end ≡ min size longest → size ≡ length a.left.items → held ≡ a.left.items → before ≡ behind_read a
 placed a before read end size held is r e s h =
     is
@@ -101,7 +103,8 @@ module _ (a : Inside) (order : IsInOrder a) (reader : TermReader) (same : reader
   fault_front fault e = fault_read spelling spelling-exact a.offset (take longest a.left.items) fault (front_reads ∙ e)
 
   -- any other answer is one to the front
-  pub fault_answers : (fault : EtfFault) → (fault ≡ Memory) ⊎ (reads_on reader before ≡ Err fault) → Answers spelling a.offset (take longest a.left.items) (Err fault)
+  pub fault_answers : (fault : EtfFault) → (fault ≡ Memory) ⊎ (reads_on reader before ≡ Err fault)
+      → Answers spelling a.offset (take longest a.left.items) (Err fault)
   fault_answers fault (inl memory) = subst (λ f. Answers spelling a.offset (take longest a.left.items) (Err f)) (sym memory) tt
   fault_answers fault (inr e) = fault_front fault e
 
@@ -142,7 +145,8 @@ pub part_left : (items : List ℕ) → length items < longest → IsPart (take l
 part_left items few part = subst IsPart (take_all longest items (omega arith)) part
 
 -- a fault at the byte that breaks a rule
-broken : (old : SpellingFeed) (fault : EtfFault) → fault ≢ Short → fault ≢ Memory → Answers spelling old.offset (front_of old) (Err fault) → Gives old (failed old fault) (Err fault)
+broken : (old : SpellingFeed) (fault : EtfFault) → fault ≢ Short → fault ≢ Memory → Answers spelling old.offset (front_of old) (Err fault)
+    → Gives old (failed old fault) (Err fault)
 broken old Short other some h = absurd (other refl)
 broken old Memory other some h = absurd (some refl)
 broken old (LongTerm at) other some h = absurd ((spelling_lacks_long at).no_break old.offset old.offset h.front h.holds)

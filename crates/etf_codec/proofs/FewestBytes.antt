@@ -54,16 +54,19 @@ IsSize-bits m zero bits s low high =
     absurd (omega arith)
 IsSize-bits m (suc n) bits s low high =
     let upper : bits < 8 * suc n =
-    ⊎_elim (λ h. h) (λ h. let b = s.below in let e = pow-bytes (suc n) in let p : 2 ^ (8 * suc n) ≤ 2 ^ bits = pow-le-pow_right (omega arith) h in absurd (omega arith)) (cases_lt bits (8 * suc n)) in
+    ⊎_elim (λ h. h) (λ h. let b = s.below in let e = pow-bytes (suc n) in let p : 2 ^ (8 * suc n) ≤ 2 ^ bits = pow-le-pow_right (omega arith) h in
+    absurd (omega arith)) (cases_lt bits (8 * suc n)) in
     let lower : 8 * n < suc bits =
-    ⊎_elim (λ h. h) (λ h. let b = s.fewest n refl in let e = pow-bytes n in let p : 2 ^ suc bits ≤ 2 ^ (8 * n) = pow-le-pow_right (omega arith) h in absurd (omega arith)) (cases_lt (8 * n) (suc bits)) in
+    ⊎_elim (λ h. h) (λ h. let b = s.fewest n refl in let e = pow-bytes n in let p : 2 ^ suc bits ≤ 2 ^ (8 * n) = pow-le-pow_right (omega arith) h in
+    absurd (omega arith)) (cases_lt (8 * n) (suc bits)) in
     omega arith
 
 -- the code's count of bytes
 pub byte_count-is : (m : ℕ) → m < 2 ^ 128 → div_ceil (128 - count_leading_zeros 128 m) 8 ≡ length (magnitude_bytes m)
 unfolding magnitude_bytes
 byte_count-is m h =
-    ⊎_elim (λ z. subst (λ (x : ℕ). div_ceil (128 - count_leading_zeros 128 x) 8 ≡ length (low_bytes 16 x)) (sym z) (ap (λ (x : ℕ). div_ceil (128 - x) 8) (leading_of_zero 128)))
+    ⊎_elim (λ z. subst (λ (x : ℕ). div_ceil (128 - count_leading_zeros 128 x) 8 ≡ length (low_bytes 16 x)) (sym z)
+    (ap (λ (x : ℕ). div_ceil (128 - x) 8) (leading_of_zero 128)))
     (λ z.
     let top = leading_top 128 m (omega arith) h in
     let size = low_bytes-size 16 m (omega arith) in

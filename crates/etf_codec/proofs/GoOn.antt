@@ -4,7 +4,8 @@ use Rattle.etf_model.specs.declared.fault.EtfFault.{EtfFault}
 use Rattle.etf_model.specs.Format.{Format, Position, Reading, go_on, followed, changed, times}
 use Rattle.etf_model.specs.Spelling.{term_with}
 
-pub go_on_twice : {A B C : Type 0} (r : Reading A) (f : A → Position → Reading B) (g : B → Position → Reading C) → go_on (go_on r f) g ≡ go_on r (λ x b. go_on (f x b) g)
+pub go_on_twice : {A B C : Type 0} (r : Reading A) (f : A → Position → Reading B) (g : B → Position → Reading C)
+    → go_on (go_on r f) g ≡ go_on r (λ x b. go_on (f x b) g)
 go_on_twice (Ok r) f g = refl
 go_on_twice (Err fault) f g = refl
 
@@ -13,7 +14,8 @@ go_on_same (Ok r) f g h = h r.0 r.1
 go_on_same (Err fault) f g h = refl
 
 -- behind each value
-last_step : {A B C : Type 0} (r : Reading (List A)) (u : A) (f : List A → B) (R : B → Position → Reading C) → go_on (go_on (go_on r (λ us b. Ok (u ∷ us, b))) (λ us b. Ok (f us, b))) R
+last_step : {A B C : Type 0} (r : Reading (List A)) (u : A) (f : List A → B) (R : B → Position → Reading C)
+    → go_on (go_on (go_on r (λ us b. Ok (u ∷ us, b))) (λ us b. Ok (f us, b))) R
     ≡ go_on (go_on r (λ us b. Ok (f (u ∷ us), b))) R
 last_step (Ok r) u f R = refl
 last_step (Err fault) u f R = refl
@@ -31,7 +33,8 @@ pub times-first : {A B C : Type 0} (F : Format A) (n : ℕ) (f : List A → B) (
 times-first F n f start position R = first_step (F.read start position) (λ b. (times n F).read start b) f R
 
 -- a term is read alike whatever term it stands in
-pub whichever_term : (test : ℕ → Bool) (fault : ℕ → ℕ → EtfFault) (levels s t : ℕ) (position : Position) → (term_with test fault levels).read s position ≡ (term_with test fault levels).read t position
+pub whichever_term : (test : ℕ → Bool) (fault : ℕ → ℕ → EtfFault) (levels s t : ℕ) (position : Position)
+    → (term_with test fault levels).read s position ≡ (term_with test fault levels).read t position
 whichever_term test fault zero s t position = refl
 whichever_term test fault (suc levels) s t position = refl
 

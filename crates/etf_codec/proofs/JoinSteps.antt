@@ -23,25 +23,29 @@ use Rattle.etf_codec.proofs.Resuming.{element_more, item_more, item_last, value_
 
 -- ---- limits
 
-pub fit_more : (ts us : List TermValue) (t : TermValue) (ahead levels : ℕ) → 0 < ahead → us ≡ ts ++ t ∷ [] → PartsFit ts (ahead + 1) levels → depth t ≤ levels → PartsFit us (ahead - 1 + 1) levels
+pub fit_more : (ts us : List TermValue) (t : TermValue) (ahead levels : ℕ) → 0 < ahead → us ≡ ts ++ t ∷ [] → PartsFit ts (ahead + 1) levels → depth t ≤ levels
+    → PartsFit us (ahead - 1 + 1) levels
 fit_more ts us t ahead levels h e p d = (
   omega (arith, ap deepest e, deepest-push ts t, p.0, d),
   omega (arith, ap length e, length-append ts (t ∷ []), p.1),
 )
 
-pub fit_last : (ts us : List TermValue) (t : TermValue) (ahead levels : ℕ) → us ≡ ts ++ t ∷ [] → PartsFit ts (ahead + 1) levels → depth t ≤ levels → PartsFit us 0 levels
+pub fit_last : (ts us : List TermValue) (t : TermValue) (ahead levels : ℕ) → us ≡ ts ++ t ∷ [] → PartsFit ts (ahead + 1) levels → depth t ≤ levels
+    → PartsFit us 0 levels
 fit_last ts us t ahead levels e p d = (
   omega (arith, ap deepest e, deepest-push ts t, p.0, d),
   omega (arith, ap length e, length-append ts (t ∷ []), p.1),
 )
 
-pub pairs_more : (ps qs : List (TermValue × TermValue)) (k v : TermValue) (ahead levels : ℕ) → 0 < ahead → qs ≡ placed (k, v) ps → PairsFit ps (ahead + 1) levels → depth k ≤ levels → depth v ≤ levels → PairsFit qs (ahead - 1 + 1) levels
+pub pairs_more : (ps qs : List (TermValue × TermValue)) (k v : TermValue) (ahead levels : ℕ) → 0 < ahead → qs ≡ placed (k, v) ps
+    → PairsFit ps (ahead + 1) levels → depth k ≤ levels → depth v ≤ levels → PairsFit qs (ahead - 1 + 1) levels
 pairs_more ps qs k v ahead levels h e p dk dv = (
   omega (arith, ap deepest_of_pairs e, deepest-placed (k, v) ps, p.0, dk, dv),
   omega (arith, ap length e, length-placed (k, v) ps, p.1),
 )
 
-pub pairs_last : (ps qs : List (TermValue × TermValue)) (k v : TermValue) (ahead levels : ℕ) → qs ≡ placed (k, v) ps → PairsFit ps (ahead + 1) levels → depth k ≤ levels → depth v ≤ levels → PairsFit qs 0 levels
+pub pairs_last : (ps qs : List (TermValue × TermValue)) (k v : TermValue) (ahead levels : ℕ) → qs ≡ placed (k, v) ps → PairsFit ps (ahead + 1) levels
+    → depth k ≤ levels → depth v ≤ levels → PairsFit qs 0 levels
 pairs_last ps qs k v ahead levels e p dk dv = (
   omega (arith, ap deepest_of_pairs e, deepest-placed (k, v) ps, p.0, dk, dv),
   omega (arith, ap length e, length-placed (k, v) ps, p.1),
@@ -103,7 +107,8 @@ may_begin_element (Value m qs k) ahead ts = tt
 -- ---- reading on
 
 pub element_goes_on : (ahead start at : ℕ) (ts us : List TermValue) (t : TermValue) → 0 < ahead → us ≡ ts ++ t ∷ [] → (begun : List Begun) (position : Position)
-    → resume (record { start = start; frame = Element ahead ts } ∷ begun) at t position ≡ reading_at (record { start = start; frame = Element (ahead - 1) us } ∷ begun) position
+    → resume (record { start = start; frame = Element ahead ts } ∷ begun) at t position ≡ reading_at
+    (record { start = start; frame = Element (ahead - 1) us } ∷ begun) position
 element_goes_on zero start at ts us t h e begun position = absurd (omega arith)
 element_goes_on (suc n) start at ts us t h e begun position =
     element_more n start at ts t begun position
@@ -113,10 +118,12 @@ element_goes_on (suc n) start at ts us t h e begun position =
 pub element_ends : (ahead start at : ℕ) (ts us : List TermValue) (t : TermValue) → ahead ≡ 0 → us ≡ ts ++ t ∷ [] → (begun : List Begun) (position : Position)
     → resume (record { start = start; frame = Element ahead ts } ∷ begun) at t position ≡ resume begun start (tuple (chain us nil)) position
 element_ends ahead start at ts us t h e begun position =
-    ap (λ n. resume (record { start = start; frame = Element n ts } ∷ begun) at t position) h ∙ ap (λ vs. resume begun start (tuple (chain vs nil)) position) (sym e)
+    ap (λ n. resume (record { start = start; frame = Element n ts } ∷ begun) at t position) h
+    ∙ ap (λ vs. resume begun start (tuple (chain vs nil)) position) (sym e)
 
 pub item_goes_on : (ahead start at : ℕ) (ts us : List TermValue) (t : TermValue) → 0 < ahead → us ≡ ts ++ t ∷ [] → (begun : List Begun) (position : Position)
-    → resume (record { start = start; frame = Item ahead ts } ∷ begun) at t position ≡ reading_at (record { start = start; frame = Item (ahead - 1) us } ∷ begun) position
+    → resume (record { start = start; frame = Item ahead ts } ∷ begun) at t position ≡ reading_at
+    (record { start = start; frame = Item (ahead - 1) us } ∷ begun) position
 item_goes_on zero start at ts us t h e begun position = absurd (omega arith)
 item_goes_on (suc n) start at ts us t h e begun position =
     item_more n start at ts t begun position
@@ -129,15 +136,18 @@ items_end ahead start at ts us t h e begun position =
     ap (λ n. resume (record { start = start; frame = Item n ts } ∷ begun) at t position) h ∙ item_last start at ts t begun position
     ∙ ap (λ vs. reading_at (record { start = start; frame = Tail vs } ∷ begun) position) (sym e)
 
-pub value_goes_on : (ahead start at : ℕ) (ps qs : List (TermValue × TermValue)) (k v : TermValue) → 0 < ahead → qs ≡ placed (k, v) ps → (begun : List Begun) (position : Position)
-    → resume (record { start = start; frame = Value ahead ps k } ∷ begun) at v position ≡ reading_at (record { start = start; frame = Key (ahead - 1) qs } ∷ begun) position
+pub value_goes_on : (ahead start at : ℕ) (ps qs : List (TermValue × TermValue)) (k v : TermValue) → 0 < ahead → qs ≡ placed (k, v) ps
+    → (begun : List Begun) (position : Position)
+    → resume (record { start = start; frame = Value ahead ps k } ∷ begun) at v position ≡ reading_at
+    (record { start = start; frame = Key (ahead - 1) qs } ∷ begun) position
 value_goes_on zero start at ps qs k v h e begun position = absurd (omega arith)
 value_goes_on (suc n) start at ps qs k v h e begun position =
     value_more n start at ps k v begun position
     ∙ ap (λ m. reading_at (record { start = start; frame = Key m (placed (k, v) ps) } ∷ begun) position) (omega arith)
     ∙ ap (λ rs. reading_at (record { start = start; frame = Key (suc n - 1) rs } ∷ begun) position) (sym e)
 
-pub values_end : (ahead start at : ℕ) (ps qs : List (TermValue × TermValue)) (k v : TermValue) → ahead ≡ 0 → qs ≡ placed (k, v) ps → (begun : List Begun) (position : Position)
+pub values_end : (ahead start at : ℕ) (ps qs : List (TermValue × TermValue)) (k v : TermValue) → ahead ≡ 0 → qs ≡ placed (k, v) ps
+    → (begun : List Begun) (position : Position)
     → resume (record { start = start; frame = Value ahead ps k } ∷ begun) at v position ≡ resume begun start (map_of qs) position
 values_end ahead start at ps qs k v h e begun position =
     ap (λ n. resume (record { start = start; frame = Value n ps k } ∷ begun) at v position) h ∙ ap (λ rs. resume begun start (map_of rs) position) (sym e)
@@ -151,7 +161,8 @@ one_made_or r f t x e (inl h) = let both : Ok t ≡ Err f = sym e ∙ h in cc
 one_made_or r f t x e (inr h) = one_made r t x e h
 
 -- a map of pairs in order
-pub map_made : (ps qs : List (TermValue × TermValue)) (levels : ℕ) → ps ≡ qs → AreAscending (keys qs) → PairsFit qs 0 levels → levels < 256 → map_built ps ≡ Ok (map_of qs)
+pub map_made : (ps qs : List (TermValue × TermValue)) (levels : ℕ) → ps ≡ qs → AreAscending (keys qs) → PairsFit qs 0 levels → levels < 256
+    → map_built ps ≡ Ok (map_of qs)
 map_made ps qs levels e up fits room =
     let order = ascending_is_by_key qs qs (IsPermutation-refl qs) up in
     ap map_built e ∙ map_built_within qs order.0 order.1 (omega (arith, fits.1)) (omega (arith, depth-map_of qs levels fits.0))
@@ -160,4 +171,5 @@ pub within_as : (b : Begun) (frame : Frame) (part : TermValue) (r : Result Joine
     → ((levels : ℕ) → levels ≤ 255 → FrameFits frame levels → PartFits frame levels part → JoinsWithin (record { start = b.start; frame = frame }) levels r)
     → (levels : ℕ) → levels ≤ 255 → FrameFits b.frame levels → PartFits b.frame levels part → JoinsWithin b levels r
 within_as b frame part r e h =
-    subst (λ f. (levels : ℕ) → levels ≤ 255 → FrameFits f levels → PartFits f levels part → JoinsWithin (record { start = b.start; frame = f }) levels r) (sym e) h
+    subst (λ f. (levels : ℕ) → levels ≤ 255 → FrameFits f levels → PartFits f levels part → JoinsWithin (record { start = b.start; frame = f }) levels r)
+    (sym e) h

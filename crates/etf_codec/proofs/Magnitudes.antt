@@ -28,7 +28,8 @@ part_passes index digit h d =
     omega arith
 
 -- one more byte within the limit
-pub magnitude_more : (most weight m n : ℕ) (term : ℕ) (position : Position) (x : ℕ) (behind : Position) → 0 < n → byte.read term position ≡ Ok (x, behind) → m + weight * x ≤ most
+pub magnitude_more : (most weight m n : ℕ) (term : ℕ) (position : Position) (x : ℕ) (behind : Position) → 0 < n → byte.read term position ≡ Ok (x, behind)
+    → m + weight * x ≤ most
     → (magnitude_after most weight m n).read term position ≡ (magnitude_after most (256 * weight) (m + weight * x) (n - 1)).read term behind
 magnitude_more most weight m zero term position x behind h e le = absurd (omega arith)
 magnitude_more most weight m (suc n) term position x behind h e le =
@@ -38,7 +39,8 @@ magnitude_more most weight m (suc n) term position x behind h e le =
     ∙ ap (λ k. (magnitude_after most (256 * weight) (m + weight * x) k).read term behind) (omega arith)
 
 -- a byte with which the limit is passed
-pub magnitude_passes : (most weight m n : ℕ) (term : ℕ) (position : Position) (x : ℕ) (behind : Position) → 0 < n → byte.read term position ≡ Ok (x, behind) → most < m + weight * x
+pub magnitude_passes : (most weight m n : ℕ) (term : ℕ) (position : Position) (x : ℕ) (behind : Position) → 0 < n → byte.read term position ≡ Ok (x, behind)
+    → most < m + weight * x
     → (magnitude_after most weight m n).read term position ≡ Err (IntegerRange term)
 magnitude_passes most weight m zero term position x behind h e lt = absurd (omega arith)
 magnitude_passes most weight m (suc n) term position x behind h e lt =

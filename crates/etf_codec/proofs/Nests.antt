@@ -29,7 +29,8 @@ around b [] h = tt
 around b (c ∷ bs) h = h.2
 
 -- another one in the place of the innermost
-pub in_place : (b c : Begun) (bs : List Begun) → AreBegun (b ∷ bs) → FrameFits c.frame (levels_below (b ∷ bs)) → ((outer : Frame) → MayBegin outer b.frame → MayBegin outer c.frame) → AreBegun (c ∷ bs)
+pub in_place : (b c : Begun) (bs : List Begun) → AreBegun (b ∷ bs) → FrameFits c.frame (levels_below (b ∷ bs))
+    → ((outer : Frame) → MayBegin outer b.frame → MayBegin outer c.frame) → AreBegun (c ∷ bs)
 in_place b c [] h fits may = fits
 in_place b c (d ∷ bs) h fits may = (fits, may d.frame h.1, h.2)
 
@@ -95,4 +96,5 @@ pub completes_from : (old mid new : List Begun) (start at : ℕ) (t u : TermValu
     → (fault ≡ Memory) ⊎ ((fault ≢ Short) × ((position : Position) → resume (reverse mid) at u position ≡ Err fault)) → Completes old new start t answer
 completes_from old mid new start at t u (Ok x) fault h same e = absurd h
 completes_from old mid new start at t u (Err y) fault h same (inl e) = inl (h ∙ e)
-completes_from old mid new start at t u (Err y) fault h same (inr e) = inr (λ short. e.0 (sym h ∙ short), λ position. same position ∙ e.1 position ∙ ap Err (sym h))
+completes_from old mid new start at t u (Err y) fault h same (inr e) =
+    inr (λ short. e.0 (sym h ∙ short), λ position. same position ∙ e.1 position ∙ ap Err (sym h))

@@ -41,7 +41,8 @@ by_frame (Tail ts) n o position = refl
 by_frame (Key ahead ps) n o position = refl
 by_frame (Value ahead ps k) n o position = refl
 
-wanted_terms : (bs : List Begun) → length bs ≤ 255 → (position : Position) → (wanted bs).read position.offset position ≡ (terms_of (next_role bs) (suc (255 - length bs))).read position.offset position
+wanted_terms : (bs : List Begun) → length bs ≤ 255 → (position : Position)
+    → (wanted bs).read position.offset position ≡ (terms_of (next_role bs) (suc (255 - length bs))).read position.offset position
 wanted_terms [] l position = refl
 wanted_terms (b ∷ bs) l position =
     let levels : levels_below (b ∷ bs) ≡ suc (255 - length (b ∷ bs)) = omega (arith, l) in
@@ -58,9 +59,11 @@ behind_tag_at bs position next tag l reads =
     goes_on_as ((terms_of (next_role bs) (suc (255 - length bs))).read position.offset) ((body_of (suc (255 - length bs) - 1) tag).read position.offset)
     (reading_at bs) (tagged bs tag position.offset) position next (reads (suc (255 - length bs)) (omega arith))
     (λ here later same. ap (λ r. go_on r (λ t behind. resume bs position.offset t behind))
-    (wanted_terms bs l (record { offset = position.offset; left = here }) ∙ same ∙ ap (λ n. (body_of n tag).read position.offset (record { offset = next.offset; left = later })) levels))
+    (wanted_terms bs l (record { offset = position.offset; left = here }) ∙ same
+    ∙ ap (λ n. (body_of n tag).read position.offset (record { offset = next.offset; left = later })) levels))
 
-no_tag_at : (bs : List Begun) (position next : Position) (fault : EtfFault) → length bs ≤ 255 → TagReads (next_role bs) position next (Err fault) → reading_at bs position ≡ Err fault
+no_tag_at : (bs : List Begun) (position next : Position) (fault : EtfFault) → length bs ≤ 255 → TagReads (next_role bs) position next (Err fault)
+    → reading_at bs position ≡ Err fault
 no_tag_at bs position next fault l reads = go_on_err _ _ _ (wanted_terms bs l position ∙ reads (suc (255 - length bs)) (omega arith))
 
 -- ---- a term that is begun
@@ -78,7 +81,8 @@ first_part (Key n ps) start bs position = key_first n start ps bs position
 first_part (Value n ps k) start bs position =
     let levels = levels_below (record { start = start; frame = Value n ps k } ∷ bs) in
     go_on_twice ((part_at levels).read start position) (λ v b. (map_behind levels (placed (k, v) ps) n).read start b) (λ whole b. resume bs start whole b)
-    ∙ ap (λ r. go_on r (λ v b. go_on ((map_behind levels (placed (k, v) ps) n).read start b) (λ whole b. resume bs start whole b))) (part_anywhere levels start position.offset position)
+    ∙ ap (λ r. go_on r (λ v b. go_on ((map_behind levels (placed (k, v) ps) n).read start b) (λ whole b. resume bs start whole b)))
+    (part_anywhere levels start position.offset position)
 
 opens : (bs : List Begun) (frame : Frame) (start : ℕ) (tag : ℕ) (next behind : Position) → length bs ≤ 254
     → (body_of (255 - length bs) tag).read start next ≡ parts_read frame (255 - length bs) start behind
@@ -89,14 +93,16 @@ opens bs frame start tag next behind l e =
 
 -- ---- limits
 
-no_list : (outer : Frame) (levels : ℕ) (t : TermValue) (tag : ℕ) → depth t ≤ levels → BeginsTail (next_in outer) (Ok tag) → (tag ≢ STRING → tag ≢ LIST → elements t ≡ []) → PartFits outer levels t
+no_list : (outer : Frame) (levels : ℕ) (t : TermValue) (tag : ℕ) → depth t ≤ levels → BeginsTail (next_in outer) (Ok tag)
+    → (tag ≢ STRING → tag ≢ LIST → elements t ≡ []) → PartFits outer levels t
 no_list (Element n ts) levels t tag d b e = d
 no_list (Item n ts) levels t tag d b e = d
 no_list (Tail ts) levels t tag d b e = (d, e b.0 b.1)
 no_list (Key n ps) levels t tag d b e = d
 no_list (Value n ps k) levels t tag d b e = d
 
-whole_may_come : (bs : List Begun) (t : TermValue) (tag : ℕ) → length bs ≤ 255 → BeginsTail (next_role bs) (Ok tag) → HeadFits tag (255 - length bs) (Ok (Whole t)) → MayCome bs t
+whole_may_come : (bs : List Begun) (t : TermValue) (tag : ℕ) → length bs ≤ 255 → BeginsTail (next_role bs) (Ok tag)
+    → HeadFits tag (255 - length bs) (Ok (Whole t)) → MayCome bs t
 whole_may_come [] t tag l b h = omega (arith, h.0)
 whole_may_come (c ∷ bs) t tag l b h = no_list c.frame (levels_below (c ∷ bs)) t tag (omega (arith, h.0, l)) b h.1
 
@@ -108,7 +114,8 @@ may_open (Tail ts) frame tag b h = h b.1 (Tail ts)
 may_open (Key n ps) frame tag b h = tt
 may_open (Value n ps k) frame tag b h = tt
 
-opened : (bs : List Begun) (frame : Frame) (start tag : ℕ) → length bs ≤ 255 → AreBegun bs → BeginsTail (next_role bs) (Ok tag) → HeadFits tag (255 - length bs) (Ok (Open frame))
+opened : (bs : List Begun) (frame : Frame) (start tag : ℕ) → length bs ≤ 255 → AreBegun bs → BeginsTail (next_role bs) (Ok tag)
+    → HeadFits tag (255 - length bs) (Ok (Open frame))
     → (length bs ≤ 254) × AreBegun (record { start = start; frame = frame } ∷ bs)
 opened [] frame start tag l begun b h = (omega arith, h.1)
 opened (c ∷ bs) frame start tag l begun b h =
@@ -125,7 +132,8 @@ whole_reading (Err fault) = refl
 -- where nothing is begun the outermost term comes next
 pub first_reading : (term : ℕ) (position : Position) → outermost.read term position ≡ reading_at [] position
 first_reading term position =
-    whichever_term is_known (λ term x. cond (x == COMPRESSED) (Compressed term) (Unsupported term x)) 256 term position.offset position ∙ whole_reading (outermost.read position.offset position)
+    whichever_term is_known (λ term x. cond (x == COMPRESSED) (Compressed term) (Unsupported term x)) 256 term position.offset position
+    ∙ whole_reading (outermost.read position.offset position)
 
 -- ---- one part
 
@@ -139,7 +147,8 @@ module _ (old : List Begun) (len : ℕ) (before : Position) (l : len ≡ length 
   levels_are : 255 - len ≡ 255 - length (reverse old)
   levels_are = omega (arith, l, length-reverse old)
 
-  pub no_tag_here : (role : Role) (mid : Position) (fault : EtfFault) → role ≡ next_role (reverse old) → TagReads role before mid (Err fault) → reading_at (reverse old) before ≡ Err fault
+  pub no_tag_here : (role : Role) (mid : Position) (fault : EtfFault) → role ≡ next_role (reverse old) → TagReads role before mid (Err fault)
+      → reading_at (reverse old) before ≡ Err fault
   no_tag_here role mid fault p reads = no_tag_at (reverse old) before mid fault few (subst (λ q. TagReads q before mid (Err fault)) p reads)
 
   module _ (role : Role) (p : role ≡ next_role (reverse old)) (mid : Position) (tag : ℕ) (reads : TagReads role before mid (Ok tag)) where
@@ -150,24 +159,29 @@ module _ (old : List Begun) (len : ℕ) (before : Position) (l : len ≡ length 
         → GoesOn (reading_at (reverse old)) (resume (reverse old) start t) before behind
     whole_here behind t h =
         goes_on_then (reading_at (reverse old)) (tagged (reverse old) tag start) (resume (reverse old) start t) before mid behind here
-        (goes_on_as ((body_of (255 - length (reverse old)) tag).read start) (λ position. Ok (t, position)) (tagged (reverse old) tag start) (resume (reverse old) start t) mid behind
+        (goes_on_as ((body_of (255 - length (reverse old)) tag).read start) (λ position. Ok (t, position)) (tagged (reverse old) tag start)
+        (resume (reverse old) start t) mid behind
         (whatever_follows (body_of (255 - length (reverse old)) tag) (body_of-exact (255 - length (reverse old)) tag) start mid behind t
         (subst (λ n. (body_of n tag).read start mid ≡ Ok (t, behind)) levels_are h))
         (λ here later same. go_on_ok _ _ _ _ same))
 
-    open_here : (behind : Position) (frame : Frame) → length (reverse old) ≤ 254 → HeadReads (body_of (255 - len) tag) (255 - len) start mid behind (Ok (Open frame))
+    open_here : (behind : Position) (frame : Frame) → length (reverse old) ≤ 254
+        → HeadReads (body_of (255 - len) tag) (255 - len) start mid behind (Ok (Open frame))
         → GoesOn (reading_at (reverse old)) (reading_at (record { start = start; frame = frame } ∷ reverse old)) before behind
     open_here behind frame room h =
-        goes_on_then (reading_at (reverse old)) (tagged (reverse old) tag start) (reading_at (record { start = start; frame = frame } ∷ reverse old)) before mid behind here
+        goes_on_then (reading_at (reverse old)) (tagged (reverse old) tag start)
+        (reading_at (record { start = start; frame = frame } ∷ reverse old)) before mid behind here
         (goes_on_as ((body_of (255 - length (reverse old)) tag).read start) (parts_read frame (255 - length (reverse old)) start)
         (tagged (reverse old) tag start) (reading_at (record { start = start; frame = frame } ∷ reverse old)) mid behind
         (subst (λ n. GoesOn ((body_of n tag).read start) (parts_read frame n start) mid behind) levels_are h)
-        (λ here later same. opens (reverse old) frame start tag (record { offset = mid.offset; left = here }) (record { offset = behind.offset; left = later }) room same))
+        (λ here later same. opens (reverse old) frame start tag (record { offset = mid.offset; left = here })
+        (record { offset = behind.offset; left = later }) room same))
 
     number_here : (behind : Position) (b : BigInteger) → HeadReads (body_of (255 - len) tag) (255 - len) start mid behind (Ok (Number b))
         → GoesOn (reading_at (reverse old)) (λ position. go_on (integer_read b position) (λ t later. resume (reverse old) b.start t later)) before behind
     number_here behind b h =
-        goes_on_then (reading_at (reverse old)) (tagged (reverse old) tag start) (λ position. go_on (integer_read b position) (λ t later. resume (reverse old) b.start t later)) before mid behind here
+        goes_on_then (reading_at (reverse old)) (tagged (reverse old) tag start)
+        (λ position. go_on (integer_read b position) (λ t later. resume (reverse old) b.start t later)) before mid behind here
         (goes_on_as ((body_of (255 - length (reverse old)) tag).read start) (integer_read b)
         (tagged (reverse old) tag start) (λ position. go_on (integer_read b position) (λ t later. resume (reverse old) b.start t later)) mid behind
         (subst (λ n. GoesOn ((body_of n tag).read start) (integer_read b) mid behind) levels_are h.1)
@@ -175,14 +189,16 @@ module _ (old : List Begun) (len : ℕ) (before : Position) (l : len ≡ length 
         ap (λ r. go_on r (λ t behind. resume (reverse old) start t behind)) same
         ∙ ap (λ o. go_on (integer_read b (record { offset = behind.offset; left = later })) (λ t position. resume (reverse old) o t position)) (sym h.0)))
 
-    fault_here : (behind : Position) (fault : EtfFault) → HeadReads (body_of (255 - len) tag) (255 - len) start mid behind (Err fault) → (fault ≡ Memory) ⊎ (reading_at (reverse old) before ≡ Err fault)
+    fault_here : (behind : Position) (fault : EtfFault) → HeadReads (body_of (255 - len) tag) (255 - len) start mid behind (Err fault)
+        → (fault ≡ Memory) ⊎ (reading_at (reverse old) before ≡ Err fault)
     fault_here behind fault (inl h) = inl h
     fault_here behind fault (inr h) =
         inr (goes_on_here (reading_at (reverse old)) (tagged (reverse old) tag start) before mid here
         ∙ go_on_err _ _ _ (subst (λ n. (body_of n tag).read start mid ≡ Err fault) levels_are h))
 
     -- nothing is left that was not
-    pub shorter_here : (behind : Position) (head : Head) → HeadReads (body_of (255 - len) tag) (255 - len) start mid behind (Ok head) → length behind.left ≤ length mid.left
+    pub shorter_here : (behind : Position) (head : Head) → HeadReads (body_of (255 - len) tag) (255 - len) start mid behind (Ok head)
+        → length behind.left ≤ length mid.left
     shorter_here behind (Whole t) h = no_longer mid behind ((body_of-exact (255 - len) tag).read_whole start mid t behind h)
     shorter_here behind (Open frame) h = no_longer mid behind h
     shorter_here behind (Number b) h = no_longer mid behind h.1
@@ -190,10 +206,13 @@ module _ (old : List Begun) (len : ℕ) (before : Position) (l : len ≡ length 
     comes_here : (t : TermValue) → BeginsTail role (Ok tag) → HeadFits tag (255 - len) (Ok (Whole t)) → MayCome (reverse old) t
     comes_here t b h = whole_may_come (reverse old) t tag few (subst (λ q. BeginsTail q (Ok tag)) p b) (subst (λ n. HeadFits tag n (Ok (Whole t))) levels_are h)
 
-    opened_here : (frame : Frame) → BeginsTail role (Ok tag) → HeadFits tag (255 - len) (Ok (Open frame)) → (length (reverse old) ≤ 254) × AreBegun (record { start = start; frame = frame } ∷ reverse old)
-    opened_here frame b h = opened (reverse old) frame start tag few nest.1 (subst (λ q. BeginsTail q (Ok tag)) p b) (subst (λ n. HeadFits tag n (Ok (Open frame))) levels_are h)
+    opened_here : (frame : Frame) → BeginsTail role (Ok tag) → HeadFits tag (255 - len) (Ok (Open frame))
+        → (length (reverse old) ≤ 254) × AreBegun (record { start = start; frame = frame } ∷ reverse old)
+    opened_here frame b h =
+        opened (reverse old) frame start tag few nest.1 (subst (λ q. BeginsTail q (Ok tag)) p b) (subst (λ n. HeadFits tag n (Ok (Open frame))) levels_are h)
 
-    pub head_here : (behind : Position) (head : Head) → BeginsTail role (Ok tag) → HeadReads (body_of (255 - len) tag) (255 - len) start mid behind (Ok head) → HeadFits tag (255 - len) (Ok head)
+    pub head_here : (behind : Position) (head : Head) → BeginsTail role (Ok tag) → HeadReads (body_of (255 - len) tag) (255 - len) start mid behind (Ok head)
+        → HeadFits tag (255 - len) (Ok head)
         → NextReads old before behind (Ok head)
     head_here behind (Whole t) b h fits = (comes_here t b fits, whole_here behind t h)
     head_here behind (Open frame) b h fits =
@@ -201,11 +220,13 @@ module _ (old : List Begun) (len : ℕ) (before : Position) (l : len ≡ length 
         (omega (arith, opened.0, length-reverse old), opened.1, open_here behind frame opened.0 h)
     head_here behind (Number b) t h fits = (fits, number_here behind b h)
 
-    pub no_head_here : (behind : Position) (fault : EtfFault) → HeadReads (body_of (255 - len) tag) (255 - len) start mid behind (Err fault) → NextReads old before before (Err fault)
+    pub no_head_here : (behind : Position) (fault : EtfFault) → HeadReads (body_of (255 - len) tag) (255 - len) start mid behind (Err fault)
+        → NextReads old before before (Err fault)
     no_head_here behind fault h = (refl, fault_here behind fault h)
 
 -- a fault that was handed on
-pub next_fault : (begun : List Begun) (before : Position) (answer : Result Head EtfFault) (fault : EtfFault) → IsErrAnd answer (λ y. y ≡ fault) → NextReads begun before before (Err fault)
+pub next_fault : (begun : List Begun) (before : Position) (answer : Result Head EtfFault) (fault : EtfFault) → IsErrAnd answer (λ y. y ≡ fault)
+    → NextReads begun before before (Err fault)
     → NextReads begun before before answer
 next_fault begun before (Ok head) fault h e = absurd h
 next_fault begun before (Err y) fault h e = subst (λ f. NextReads begun before before (Err f)) (sym h) e

@@ -13,7 +13,8 @@ pub goes_on_here : {A : Type 0} (R S : Position → Reading A) (before behind : 
 goes_on_here R S before behind g = ap (λ l. R (record { offset = before.offset; left = l })) g.bytes ∙ g.holds behind.left
 
 -- and on from there
-pub goes_on_then : {A : Type 0} (R S T : Position → Reading A) (before between behind : Position) → GoesOn R S before between → GoesOn S T between behind → GoesOn R T before behind
+pub goes_on_then : {A : Type 0} (R S T : Position → Reading A) (before between behind : Position) → GoesOn R S before between → GoesOn S T between behind
+    → GoesOn R T before behind
 goes_on_then R S T before between behind g h = record {
   front = g.front ++ h.front;
   holds = λ more. ap (λ l. R (record { offset = before.offset; left = l })) (append_assoc g.front h.front more) ∙ g.holds (h.front ++ more) ∙ h.holds more;

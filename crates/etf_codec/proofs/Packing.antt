@@ -1,5 +1,6 @@
 -- Bits packed into bytes are the bytes that they came from, where their unused bits are zero.
-use Rattle.std.proofs.Common.{◌≡◌, ℕ, zero, suc, ◌+◌, ◌-◌, ◌*◌, ◌%◌, ◌^◌, ◌<◌, ◌≤◌, ◌||◌, ◌==◌, Bool, true, not, List, [], ◌∷◌, ◌++◌, length, take, get_or, refl, sym, ap, ◌∙◌, arith}
+use Rattle.std.proofs.Common.{◌≡◌, ℕ, zero, suc, ◌+◌, ◌-◌, ◌*◌, ◌%◌, ◌^◌, ◌<◌, ◌≤◌, ◌||◌, ◌==◌, Bool, true, not, List, [], ◌∷◌, ◌++◌, length, take, get_or}
+use Rattle.std.proofs.Common.{refl, sym, ap, ◌∙◌, arith}
 use Rattle.std.proofs.lemmas.Bool.{agree_below_at, eqb-true, eq-eqb, ne_eqb, not_from_true, cond-true, cond-false}
 use Rattle.std.proofs.lemmas.List.{length-append}
 use Rattle.dets_term.specs.BitString.{byte_bits, bits_of, last_byte, IsPadded}
@@ -56,7 +57,8 @@ length-first_bits (suc (suc (suc (suc (suc (suc (suc zero))))))) x high = refl
 length-first_bits (suc (suc (suc (suc (suc (suc (suc (suc zero)))))))) x high = refl
 length-first_bits (suc (suc (suc (suc (suc (suc (suc (suc (suc n))))))))) x high = absurd (omega arith)
 
-pub packed-bits_of : (bytes : List ℕ) (used : ℕ) → ((i : ℕ) → get_or bytes i 0 < 256) → 1 ≤ used → used ≤ 8 → last_byte bytes % 2 ^ (8 - used) ≡ 0 → packed (bits_of bytes used) ≡ bytes
+pub packed-bits_of : (bytes : List ℕ) (used : ℕ) → ((i : ℕ) → get_or bytes i 0 < 256) → 1 ≤ used → used ≤ 8 → last_byte bytes % 2 ^ (8 - used) ≡ 0
+    → packed (bits_of bytes used) ≡ bytes
 packed-bits_of [] used fits low high z = refl
 packed-bits_of (x ∷ []) used fits low high z = packed-one used x low high ∙ ap (λ b. b ∷ []) (padded_byte used x low high (fits 0) z)
 packed-bits_of (x ∷ y ∷ bytes) used fits low high z =
@@ -87,14 +89,16 @@ whole-bits_of (x ∷ bytes) = let e = length-bits_of x bytes 8 (omega arith) in 
 
 -- ---- the spelling of padded bytes
 
-pub bits_spelling-whole : (bytes : List ℕ) (used : ℕ) → used ≡ 8 → ((i : ℕ) → get_or bytes i 0 < 256) → IsPadded bytes used → bits_spelling (bits_of bytes used) ≡ head BINARY 4 (length bytes) ++ bytes
+pub bits_spelling-whole : (bytes : List ℕ) (used : ℕ) → used ≡ 8 → ((i : ℕ) → get_or bytes i 0 < 256) → IsPadded bytes used
+    → bits_spelling (bits_of bytes used) ≡ head BINARY 4 (length bytes) ++ bytes
 bits_spelling-whole bytes used e fits padded =
     let same = packed-bits_of bytes used fits padded.used.0 padded.used.1 padded.zeros in
     let whole : length (bits_of bytes used) % 8 ≡ 0 = ap (λ n. length (bits_of bytes n) % 8) e ∙ whole-bits_of bytes in
     cond-true (length (bits_of bytes used) % 8 == 0) _ _ (eq-eqb _ 0 whole)
     ∙ ap (λ bs. head BINARY 4 (length bs) ++ bs) same
 
-pub bits_spelling-padded : (bytes : List ℕ) (used : ℕ) → (used ≡ 8 → ⊥) → ((i : ℕ) → get_or bytes i 0 < 256) → IsPadded bytes used → bits_spelling (bits_of bytes used) ≡ head BIT_BINARY 4 (length bytes) ++ (used ∷ bytes)
+pub bits_spelling-padded : (bytes : List ℕ) (used : ℕ) → (used ≡ 8 → ⊥) → ((i : ℕ) → get_or bytes i 0 < 256) → IsPadded bytes used
+    → bits_spelling (bits_of bytes used) ≡ head BIT_BINARY 4 (length bytes) ++ (used ∷ bytes)
 bits_spelling-padded bytes used ne fits padded =
     let low = padded.used.0 in
     let high = padded.used.1 in

@@ -23,7 +23,8 @@ length-placed p (x ∷ xs) = by (is_lt (order p.0 x.0)) refl (length-placed p xs
   by true e rest = ap length (placed_lt p x xs e)
   by false e rest = ap length (placed_ge p x xs e) ∙ ap suc rest
 
-pub deepest-placed : (p : TermValue × TermValue) (xs : List (TermValue × TermValue)) → deepest_of_pairs (placed p xs) ≡ max (max (depth p.0) (depth p.1)) (deepest_of_pairs xs)
+pub deepest-placed : (p : TermValue × TermValue) (xs : List (TermValue × TermValue))
+    → deepest_of_pairs (placed p xs) ≡ max (max (depth p.0) (depth p.1)) (deepest_of_pairs xs)
 deepest-placed p [] = refl
 deepest-placed p (x ∷ xs) = by (is_lt (order p.0 x.0)) refl (deepest-placed p xs) where
   by : (b : Bool) → is_lt (order p.0 x.0) ≡ b → deepest_of_pairs (placed p xs) ≡ max (max (depth p.0) (depth p.1)) (deepest_of_pairs xs)
@@ -33,7 +34,8 @@ deepest-placed p (x ∷ xs) = by (is_lt (order p.0 x.0)) refl (deepest-placed p 
 
 -- ---- what building answers
 
-pub map_built_within : (pairs : List (TermValue × TermValue)) → repeats (keys pairs) ≡ false → by_key pairs ≡ pairs → length pairs < 2 ^ 32 → depth (map_of pairs) ≤ 256
+pub map_built_within : (pairs : List (TermValue × TermValue)) → repeats (keys pairs) ≡ false → by_key pairs ≡ pairs → length pairs < 2 ^ 32
+    → depth (map_of pairs) ≤ 256
     → map_built pairs ≡ Ok (map_of pairs)
 map_built_within pairs apart in_order few shallow =
     let first : nat_lt (length pairs) (2 ^ 32) ≡ true = grind (arith, nat_tests) in

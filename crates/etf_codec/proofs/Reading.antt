@@ -32,7 +32,8 @@ reads_same r s behind (Err fault) e h = e ∙ h
 -- ---- behind a tag
 
 -- a term whose tag is taken, and one whose tag is refused
-pub reads_tagged : {A : Type 0} (test : ℕ → Bool) (refuse : ℕ → ℕ → EtfFault) (G : ℕ → Format A) (term : ℕ) (before between behind : Position) (tag : ℕ) (answer : Result A EtfFault)
+pub reads_tagged : {A : Type 0} (test : ℕ → Bool) (refuse : ℕ → ℕ → EtfFault) (G : ℕ → Format A) (term : ℕ) (before between behind : Position) (tag : ℕ)
+    (answer : Result A EtfFault)
     → byte.read term before ≡ Ok (tag, between) → test tag ≡ true → Reads (G tag) term between behind answer
     → Reads (followed (tag_of test refuse) G) term before behind answer
 reads_tagged test refuse G term before between behind tag answer e t h =
@@ -71,8 +72,10 @@ go_on_judged : {A : Type 0} (G : ℕ → Format A) (term tag : ℕ) (between : P
 go_on_judged G term tag between fault true = refl
 go_on_judged G term tag between fault false = refl
 
-pub reads_behind_tag : {A : Type 0} (test : ℕ → Bool) (refuse : ℕ → ℕ → EtfFault) (G : ℕ → Format A) (term : ℕ) (before between behind : Position) (tag : ℕ) (answer : Result A EtfFault)
-    → byte.read before.offset before ≡ Ok (tag, between) → ReadsAs (behind_tag (test tag) (refuse before.offset tag) (G tag) before.offset between) behind answer
+pub reads_behind_tag : {A : Type 0} (test : ℕ → Bool) (refuse : ℕ → ℕ → EtfFault) (G : ℕ → Format A) (term : ℕ) (before between behind : Position) (tag : ℕ)
+    (answer : Result A EtfFault)
+    → byte.read before.offset before ≡ Ok (tag, between)
+    → ReadsAs (behind_tag (test tag) (refuse before.offset tag) (G tag) before.offset between) behind answer
     → Reads (framed (followed (tag_of test refuse) G)) term before behind answer
 reads_behind_tag test refuse G term before between behind tag answer e h =
     reads_framed (followed (tag_of test refuse) G) term before behind answer

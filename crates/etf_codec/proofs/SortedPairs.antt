@@ -17,16 +17,19 @@ pub lookup-keys : (k : TermValue) (es : List (TermValue × TermValue)) → is_so
 lookup-keys k [] = refl
 lookup-keys k (e ∷ es) = by (is_same k e.0) (lookup-keys k es)
   where
-    by : (b : Bool) → is_some (lookup (is_at (order k)) es) ≡ list_any (is_same k) (keys es) → is_some (cond b (Some e.1) (lookup (is_at (order k)) es)) ≡ b || list_any (is_same k) (keys es)
+    by : (b : Bool) → is_some (lookup (is_at (order k)) es) ≡ list_any (is_same k) (keys es)
+        → is_some (cond b (Some e.1) (lookup (is_at (order k)) es)) ≡ b || list_any (is_same k) (keys es)
     by true rest = refl
     by false rest = rest
 
 -- a new key's entry goes to its place
-pub insert_entry-placed : (k v : TermValue) (es : List (TermValue × TermValue)) → list_any (is_same k) (keys es) ≡ false → insert_entry order es k v ≡ placed (k, v) es
+pub insert_entry-placed : (k v : TermValue) (es : List (TermValue × TermValue)) → list_any (is_same k) (keys es) ≡ false
+    → insert_entry order es k v ≡ placed (k, v) es
 insert_entry-placed k v [] h = refl
 insert_entry-placed k v (e ∷ es) h = by (order k e.0) h (insert_entry-placed k v es)
   where
-    by : (o : Ordering) → (is_eq o || list_any (is_same k) (keys es)) ≡ false → (list_any (is_same k) (keys es) ≡ false → insert_entry order es k v ≡ placed (k, v) es)
+    by : (o : Ordering) → (is_eq o || list_any (is_same k) (keys es)) ≡ false
+        → (list_any (is_same k) (keys es) ≡ false → insert_entry order es k v ≡ placed (k, v) es)
         → match_ordering o ((k, v) ∷ e ∷ es) ((e.0, v) ∷ es) (e ∷ insert_entry order es k v) ≡ cond (is_lt o) ((k, v) ∷ e ∷ es) (e ∷ placed (k, v) es)
     by Less h rest = refl
     by Equal h rest = cc

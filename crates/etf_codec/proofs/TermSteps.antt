@@ -1,5 +1,6 @@
 -- Terms with parts, as formats read them.
-use Rattle.std.proofs.Common.{◌≡◌, ℕ, zero, suc, ◌-◌, ◌<◌, ◌≤◌, ◌^◌, ◌⊎◌, max, Bool, true, false, cond, List, [], ◌∷◌, length, Result, Ok, Err, refl, ap, sym, ◌∙◌, inl, inr, arith}
+use Rattle.std.proofs.Common.{◌≡◌, ℕ, zero, suc, ◌-◌, ◌<◌, ◌≤◌, ◌^◌, ◌⊎◌, max, Bool, true, false, cond, List, [], ◌∷◌, length, Result, Ok, Err, refl, ap, sym}
+use Rattle.std.proofs.Common.{◌∙◌, inl, inr, arith}
 use Rattle.std.specs.Prelude.{IfOk, IfErr}
 use Rattle.dets_term.specs.TermValue.{TermValue, tuple, nil, chain, elements, is_list, parts_depth, depth}
 use Rattle.dets_term.specs.IsTerm.{built}
@@ -13,7 +14,8 @@ use Rattle.etf_codec.proofs.Built.{built_within}
 -- ---- a term by its tag
 
 -- a tag that may stand here
-pub term_step : (test : ℕ → Bool) (fault : ℕ → ℕ → EtfFault) (levels tag term : ℕ) (position next : Position) → 0 < levels → byte.read position.offset position ≡ Ok (tag, next) → test tag ≡ true
+pub term_step : (test : ℕ → Bool) (fault : ℕ → ℕ → EtfFault) (levels tag term : ℕ) (position next : Position) → 0 < levels
+    → byte.read position.offset position ≡ Ok (tag, next) → test tag ≡ true
     → (term_with test fault levels).read term position ≡ (body_of (levels - 1) tag).read position.offset next
 unfolding body_of
 term_step test fault zero tag term position next h e t = absurd (omega arith)
@@ -21,13 +23,15 @@ term_step test fault (suc levels) tag term position next h e t =
     go_on_ok _ _ _ _ (test_passes _ tag next test (fault position.offset) e t) ∙ ap (λ n. (body_of n tag).read position.offset next) (omega arith)
 
 -- one that may not
-pub term_refused : (test : ℕ → Bool) (fault : ℕ → ℕ → EtfFault) (levels tag term : ℕ) (position next : Position) → 0 < levels → byte.read position.offset position ≡ Ok (tag, next) → test tag ≡ false
+pub term_refused : (test : ℕ → Bool) (fault : ℕ → ℕ → EtfFault) (levels tag term : ℕ) (position next : Position) → 0 < levels
+    → byte.read position.offset position ≡ Ok (tag, next) → test tag ≡ false
     → (term_with test fault levels).read term position ≡ Err (fault position.offset tag)
 term_refused test fault zero tag term position next h e t = absurd (omega arith)
 term_refused test fault (suc levels) tag term position next h e t = go_on_err _ _ _ (test_fails _ tag next test (fault position.offset) e t)
 
 -- none
-pub term_fails : (test : ℕ → Bool) (fault : ℕ → ℕ → EtfFault) (levels term : ℕ) (position : Position) (f : EtfFault) → 0 < levels → byte.read position.offset position ≡ Err f
+pub term_fails : (test : ℕ → Bool) (fault : ℕ → ℕ → EtfFault) (levels term : ℕ) (position : Position) (f : EtfFault) → 0 < levels
+    → byte.read position.offset position ≡ Err f
     → (term_with test fault levels).read term position ≡ Err f
 term_fails test fault zero term position f h e = absurd (omega arith)
 term_fails test fault (suc levels) term position f h e = go_on_err _ _ _ (go_on_err _ _ _ e)
@@ -60,7 +64,8 @@ pub length-list_of : (ts : List TermValue) (tail : TermValue) → elements tail 
 length-list_of [] tail alone = ap length alone
 length-list_of (t ∷ ts) tail alone = ap suc (length-list_of ts tail alone)
 
-pub built_list : (ts : List TermValue) (tail : TermValue) (levels : ℕ) → levels < 256 → length ts < 2 ^ 32 → elements tail ≡ [] → deepest ts ≤ levels → depth tail ≤ levels
+pub built_list : (ts : List TermValue) (tail : TermValue) (levels : ℕ) → levels < 256 → length ts < 2 ^ 32 → elements tail ≡ [] → deepest ts ≤ levels
+    → depth tail ≤ levels
     → built (length (elements (chain ts tail))) (chain ts tail) ≡ Ok (chain ts tail)
 built_list ts tail levels room few alone h k =
     built_within (length (elements (chain ts tail))) (chain ts tail) (rw (length-list_of ts tail alone) few) (omega (arith, depth-list_of ts tail levels h k))
@@ -71,7 +76,8 @@ IfErr-either (Ok y) e x h = tt
 IfErr-either (Err f) e x (inl h) = cc
 IfErr-either (Err f) e x (inr h) = cc
 
-pub IfOk-either : {A E F : Type 0} (r : Result A E) (made : Result A F) (f : F) (x : A) → IfOk r (λ t. made ≡ Ok t) → (made ≡ Err f) ⊎ (made ≡ Ok x) → IfOk r (λ t. t ≡ x)
+pub IfOk-either : {A E F : Type 0} (r : Result A E) (made : Result A F) (f : F) (x : A) → IfOk r (λ t. made ≡ Ok t) → (made ≡ Err f) ⊎ (made ≡ Ok x)
+    → IfOk r (λ t. t ≡ x)
 IfOk-either (Ok t) made f x ok (inl h) = let both : Ok t ≡ Err f = sym ok ∙ h in cc
 IfOk-either (Ok t) made f x ok (inr h) = let both : Ok t ≡ Ok x = sym ok ∙ h in cc
 IfOk-either (Err e) made f x ok h = tt
@@ -85,5 +91,6 @@ or_else f (inr b) = inr (f b)
 pub depth-tuple_of : (ts : List TermValue) (levels : ℕ) → deepest ts ≤ levels → depth (tuple (chain ts nil)) ≤ suc levels
 depth-tuple_of ts levels h = omega (arith, h, parts_depth-chain ts)
 
-pub built_tuple : (ts : List TermValue) (levels : ℕ) → levels < 256 → length ts < 2 ^ 32 → deepest ts ≤ levels → built (length ts) (tuple (chain ts nil)) ≡ Ok (tuple (chain ts nil))
+pub built_tuple : (ts : List TermValue) (levels : ℕ) → levels < 256 → length ts < 2 ^ 32 → deepest ts ≤ levels
+    → built (length ts) (tuple (chain ts nil)) ≡ Ok (tuple (chain ts nil))
 built_tuple ts levels room few h = built_within (length ts) (tuple (chain ts nil)) few (omega (arith, depth-tuple_of ts levels h))

@@ -16,7 +16,8 @@ use Rattle.etf_codec.specs.Begun.{FrameFits, PartFits, MayBegin}
 abbrev pub JoinsTo : Begun → ℕ → TermValue → Result Joined EtfFault → Type 0
 JoinsTo b at t (Ok (Whole start whole)) = (begun : List Begun) (position : Position) → resume (b ∷ begun) at t position ≡ resume begun start whole position
 JoinsTo b at t (Ok (Open c)) = (begun : List Begun) (position : Position) → resume (b ∷ begun) at t position ≡ reading_at (c ∷ begun) position
-JoinsTo b at t (Err fault) = (fault ≡ Memory) ⊎ ((fault ≡ RepeatedKey at) × ((begun : List Begun) (position : Position) → resume (b ∷ begun) at t position ≡ Err fault))
+JoinsTo b at t (Err fault) =
+    (fault ≡ Memory) ⊎ ((fault ≡ RepeatedKey at) × ((begun : List Begun) (position : Position) → resume (b ∷ begun) at t position ≡ Err fault))
 
 -- what stays within the limits of terms, where the parts have at most so many levels
 abbrev pub JoinsWithin : Begun → ℕ → Result Joined EtfFault → Type 0

@@ -3,7 +3,8 @@ ghost use Rattle.std.specs.List.{flat_map};
 ghost use Rattle.std.specs.Str.{chars};
 ghost use Rattle.dets_term.specs.TermValue.{nil, chain};
 ghost use Rattle.dets_term.specs.BitString.{bits_of, IsPadded};
-ghost use Rattle.etf_model.specs.Canonical.{canonical, head, tuple_head, text_head, magnitude_bytes, big_spelling, integer_spelling, atom_spelling, bits_spelling, is_byte, byte_value, are_bytes};
+ghost use Rattle.etf_model.specs.Canonical.{canonical, head, tuple_head, text_head, magnitude_bytes, big_spelling};
+ghost use Rattle.etf_model.specs.Canonical.{integer_spelling, atom_spelling, bits_spelling, is_byte, byte_value, are_bytes};
 
 use crate::Memory;
 use dets_term::{ByteList, Node, PairList, Term, TermList};

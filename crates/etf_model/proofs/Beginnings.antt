@@ -65,11 +65,13 @@ module _ {A : Type 0} (F : Format A) (f : IsExact F) where
   pub whole_or_part : (bytes : List ℕ) → BeginsWhole bytes → F.Part bytes → ⊥
   whole_or_part bytes (x, s) p =
       let answered = f.whole_read 0 0 x s.front s.rest s.holds in
-      let clash : ◌≡◌ {A = Reading A} (Ok (x, record { offset = 0 + length s.front; left = s.rest })) (Err Short) = sym answered ∙ ap (reading 0) (sym s.whole) ∙ f.part_read 0 0 bytes p in
+      let clash : ◌≡◌ {A = Reading A} (Ok (x, record { offset = 0 + length s.front; left = s.rest })) (Err Short) =
+      sym answered ∙ ap (reading 0) (sym s.whole) ∙ f.part_read 0 0 bytes p in
       cc
 
   pub break_or_part : (start : ℕ) (bytes : List ℕ) → BeginsBreak start bytes → F.Part bytes → ⊥
   break_or_part start bytes (fault, b) p =
-      let same : ◌≡◌ {A = Reading A} (Err fault) (Err Short) = sym (f.break_read start start b.front b.rest fault b.holds) ∙ ap (reading start) (sym b.whole) ∙ f.part_read start start bytes p in
+      let same : ◌≡◌ {A = Reading A} (Err fault) (Err Short) =
+      sym (f.break_read start start b.front b.rest fault b.holds) ∙ ap (reading start) (sym b.whole) ∙ f.part_read start start bytes p in
       let short : fault ≡ Short = cc in
       f.break_fault start start b.front fault b.holds short

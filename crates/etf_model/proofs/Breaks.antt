@@ -23,7 +23,8 @@ fronts (x ∷ front) rest (y ∷ other) more e =
     let rests : front ++ rest ≡ other ++ more = cc in
     with_rest same (fronts front rest other more rests)
   where
-    with_rest : x ≡ y → (front ≡ other) ⊎ (IsWithin front other ⊎ IsWithin other front) → (x ∷ front ≡ y ∷ other) ⊎ (IsWithin (x ∷ front) (y ∷ other) ⊎ IsWithin (y ∷ other) (x ∷ front))
+    with_rest : x ≡ y → (front ≡ other) ⊎ (IsWithin front other ⊎ IsWithin other front)
+        → (x ∷ front ≡ y ∷ other) ⊎ (IsWithin (x ∷ front) (y ∷ other) ⊎ IsWithin (y ∷ other) (x ∷ front))
     with_rest same (inl e) = inl (cc)
     with_rest same (inr (inl (k, tail, e))) = inr (inl (k, tail, cc))
     with_rest same (inr (inr (k, tail, e))) = inr (inr (k, tail, cc))
@@ -47,7 +48,8 @@ within_one_more (x ∷ front) tail (y ∷ part) k last e =
 
 module _ {A : Type 0} (F : Format A) (f : IsExact F) (s : IsSharp F) where
   -- no break stands in front of the last byte of another
-  not_within : (start : ℕ) (front other : List ℕ) (why how : EtfFault) → F.Break start start front why → F.Break start start other how → IsWithin front other → ⊥
+  not_within : (start : ℕ) (front other : List ℕ) (why how : EtfFault) → F.Break start start front why → F.Break start start other how → IsWithin front other
+      → ⊥
   not_within start front other why how b c (k, more, e) =
       let one = s.break_sharp start start other how c in
       let inside = within_one_more front more one.front k one.last (sym e ∙ one.whole) in
@@ -63,7 +65,8 @@ module _ {A : Type 0} (F : Format A) (f : IsExact F) (s : IsSharp F) where
       → front ++ rest ≡ other ++ more → (front ≡ other) × (why ≡ how)
   one_break start front rest other more why how b c e =
       let same : ◌≡◌ {A = Reading A} (Err why) (Err how) =
-      sym (f.break_read start start front rest why b) ∙ ap (λ l. F.read start (record { offset = start; left = l })) e ∙ f.break_read start start other more how c in
+      sym (f.break_read start start front rest why b) ∙ ap (λ l. F.read start (record { offset = start; left = l })) e
+      ∙ f.break_read start start other more how c in
       (same_break start front other why how b c (fronts front rest other more e), (let faults : why ≡ how = cc in faults))
 
 -- ---- at another offset
@@ -76,7 +79,8 @@ module _ {A : Type 0} (F : Format A) (f : IsExact F) (s : IsSharp F) (m : IsMovi
   moved_back start n bytes fault b (inr (inr part)) =
       absurd (break_or_part F f (start + n) bytes (fault, record { front = bytes; rest = []; holds = b; whole = sym (append-nil bytes) }) part)
   moved_back start n bytes fault b (inr (inl (g, c))) =
-      let same = one_break F f s (start + n) bytes [] c.front c.rest fault (moved n g) b (m.break_moves n start start c.front g c.holds) (append-nil bytes ∙ c.whole) in
+      let same =
+      one_break F f s (start + n) bytes [] c.front c.rest fault (moved n g) b (m.break_moves n start start c.front g c.holds) (append-nil bytes ∙ c.whole) in
       (g, same.1, subst (λ l. F.Break start start l g) (sym same.0) c.holds)
 
   -- what breaks a rule at one offset does so at each

@@ -34,10 +34,12 @@ but_last-append (y ∷ z ∷ front) x rest = ap (λ l. y ∷ l) (but_last-append
 ends_whole : (bytes front rest : List ℕ) (fault : EtfFault) → IsPart (but_last bytes) → IsBreak 0 front fault → bytes ≡ front ++ rest → front ≡ bytes
 ends_whole bytes front [] fault p b e = sym (append-nil front) ∙ sym e
 ends_whole bytes front (x ∷ rest) fault p b e =
-    absurd (break_or_part spelling spelling-exact 0 (but_last bytes) (fault, record { front = front; rest = but_last (x ∷ rest); holds = b; whole = ap but_last e ∙ but_last-append front x rest }) p)
+    absurd (break_or_part spelling spelling-exact 0 (but_last bytes)
+    (fault, record { front = front; rest = but_last (x ∷ rest); holds = b; whole = ap but_last e ∙ but_last-append front x rest }) p)
 
 -- a fault that comes with the last byte
-pub broken : (bytes : List ℕ) (fault : EtfFault) → reading bytes ≡ Err fault → reading (but_last bytes) ≡ Err Short → (fault ≡ Short → ⊥) → IsBreak 0 bytes fault
+pub broken : (bytes : List ℕ) (fault : EtfFault) → reading bytes ≡ Err fault → reading (but_last bytes) ≡ Err Short → (fault ≡ Short → ⊥)
+    → IsBreak 0 bytes fault
 broken bytes fault e p other =
     let b = spelling-exact.read_break 0 (record { offset = 0; left = bytes }) fault e other in
     subst (λ l. IsBreak 0 l fault) (ends_whole bytes b.front b.rest fault (part (but_last bytes) p) b.holds b.whole) b.holds

@@ -1,5 +1,6 @@
 -- The canonical spelling of a term spells it.
-use Rattle.std.proofs.Common.{◌≡◌, ℕ, zero, suc, ◌^◌, ◌<◌, ◌≤◌, Bool, true, false, cond, ◌&&◌, ◌==◌, nat_le, List, [], ◌∷◌, ◌++◌, length, map, ⊎_elim, refl, sym, ap, ◌∙◌, subst, arith}
+use Rattle.std.proofs.Common.{◌≡◌, ℕ, zero, suc, ◌^◌, ◌<◌, ◌≤◌, Bool, true, false, cond, ◌&&◌, ◌==◌, nat_le, List, [], ◌∷◌, ◌++◌, length, map, ⊎_elim, refl}
+use Rattle.std.proofs.Common.{sym, ap, ◌∙◌, subst, arith}
 use Rattle.std.specs.List.{concat, flat_map, zip, list_all, AllByRecursion}
 use Rattle.std.proofs.lemmas.Bool.{cond-true, cond-false, cases_Bool, and_parts, leb-true}
 use Rattle.std.proofs.lemmas.List.{length-map}
@@ -29,7 +30,8 @@ tail levels = term_with begins_tail (λ term x. Unsupported term x) levels
 abbrev AtLevel : ℕ → TermValue → List ℕ → Type 0
 AtLevel levels t bytes = Tagged (part levels) (tail levels) levels t bytes
 
-term_whole : (test : ℕ → Bool) (fault : ℕ → ℕ → EtfFault) (levels : ℕ) (t : TermValue) (bytes : List ℕ) (w : AtLevel levels t bytes) → test w.tag ≡ true → (term_with test fault (suc levels)).Whole t bytes
+term_whole : (test : ℕ → Bool) (fault : ℕ → ℕ → EtfFault) (levels : ℕ) (t : TermValue) (bytes : List ℕ) (w : AtLevel levels t bytes) → test w.tag ≡ true
+    → (term_with test fault (suc levels)).Whole t bytes
 term_whole test fault levels t bytes w passes =
     subst (λ b. (term_with test fault (suc levels)).Whole t b) (sym w.same)
     (followed_whole (tag_of test fault) (λ tag. body (part levels) (tail levels) levels tag) w.tag t (w.tag ∷ []) w.rest (refl, passes) w.inside)
@@ -184,7 +186,8 @@ unfolding empty_list
 empty_ending zero one = absurd (omega arith)
 empty_ending (suc levels) one = term_whole begins_tail (λ term x. Unsupported term x) levels nil (NIL ∷ []) (empty_list levels) refl
 
-tuple_canon : (parts : TermValue) → Canon parts → (levels : ℕ) → parts_depth (tuple parts) ≤ levels → IsBounded (tuple parts) → AtLevel levels (tuple parts) (canonical (tuple parts))
+tuple_canon : (parts : TermValue) → Canon parts → (levels : ℕ) → parts_depth (tuple parts) ≤ levels → IsBounded (tuple parts)
+    → AtLevel levels (tuple parts) (canonical (tuple parts))
 tuple_canon parts c levels h b =
     let ts = elements parts in
     let same = ap tuple (proper parts b.0) in
@@ -195,7 +198,8 @@ tuple_canon parts c levels h b =
     (tagged_at (part levels) (tail levels) levels (tuple (chain ts nil)) _ _ (sym (canonical-tuple ts))
     (tuple_tagged (part levels) (tail levels) levels ts (few-elements parts b.1) (may_count levels ts (omega arith)) all))
 
-map_canon : (ks vs : TermValue) → Canon ks → Canon vs → (levels : ℕ) → parts_depth (mapping ks vs) ≤ levels → IsBounded (mapping ks vs) → AtLevel levels (mapping ks vs) (canonical (mapping ks vs))
+map_canon : (ks vs : TermValue) → Canon ks → Canon vs → (levels : ℕ) → parts_depth (mapping ks vs) ≤ levels → IsBounded (mapping ks vs)
+    → AtLevel levels (mapping ks vs) (canonical (mapping ks vs))
 map_canon ks vs c d levels h b =
     let ps = zip (elements ks) (elements vs) in
     let first = keys-zip (elements ks) (elements vs) b.2 in
@@ -206,13 +210,15 @@ map_canon ks vs c d levels h b =
     let few : length ps < 2 ^ 32 = let size = sym (length-map ps (λ p. p.0)) ∙ ap length first in let most = few-elements ks b.4 in omega arith in
     let deep_ks = rest_depth-proper ks b.0 in
     let deep_vs = rest_depth-proper vs b.1 in
-    let all = all-zip (λ u. (part levels).Whole u (canonical u)) (elements ks) (elements vs) (c.each levels (omega arith) b.4) (d.each levels (omega arith) b.5) in
+    let all =
+    all-zip (λ u. (part levels).Whole u (canonical u)) (elements ks) (elements vs) (c.each levels (omega arith) b.4) (d.each levels (omega arith) b.5) in
     let deep : deepest_of_pairs ps ≤ levels = let e = sym (parts_depth-map_of ps) ∙ ap parts_depth same in omega arith in
     subst (λ t. AtLevel levels t (canonical t)) same
     (tagged_at (part levels) (tail levels) levels (map_of ps) _ _ (sym (canonical-map ps))
     (map_tagged (part levels) (tail levels) levels ps few (may_count_pairs levels ps deep) (subst AreAscending (sym first) b.3) all))
 
-list_canon : (first rest : TermValue) → Canon first → Canon rest → (levels : ℕ) → parts_depth (cons first rest) ≤ levels → IsBounded (cons first rest) → AtLevel levels (cons first rest) (canonical (cons first rest))
+list_canon : (first rest : TermValue) → Canon first → Canon rest → (levels : ℕ) → parts_depth (cons first rest) ≤ levels → IsBounded (cons first rest)
+    → AtLevel levels (cons first rest) (canonical (cons first rest))
 list_canon first rest c d levels h b =
     let t = cons first rest in
     let ts = elements (cons first rest) in
@@ -259,5 +265,5 @@ pub canonical_spells : (t : TermValue) → IsTerm t → Spells t (VERSION ∷ ca
 canonical_spells t term =
     let shallow = term.shallow in
     let w = (canon t).itself 255 (omega arith) term.bounded in
-    followed_whole (tag_of (λ x. x == VERSION) (λ term x. NotVersion term)) (λ x. outermost) 131 t (VERSION ∷ []) (canonical t) (refl, refl)
+    followed_whole (tag_of (λ x. x == VERSION) (λ term x. NotVersion term)) (λ x. outermost) VERSION t (VERSION ∷ []) (canonical t) (refl, refl)
     (term_whole is_known (λ term x. cond (x == COMPRESSED) (Compressed term) (Unsupported term x)) 255 t (canonical t) w w.known)

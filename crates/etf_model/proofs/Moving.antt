@@ -16,7 +16,8 @@ pub give_moves : {A : Type 0} (value : A) → IsMoving (give value)
 give_moves value = record { break_moves = λ n term here bytes fault h. absurd h }
 
 module _ {A B : Type 0} (F : Format A) (G : A → Format B) (f : IsMoving F) (g : (x : A) (front : List ℕ) → F.Whole x front → IsMoving (G x)) where
-  followed_break : (n term here : ℕ) (bytes : List ℕ) (fault : EtfFault) → (followed F G).Break term here bytes fault → (followed F G).Break (term + n) (here + n) bytes (moved n fault)
+  followed_break : (n term here : ℕ) (bytes : List ℕ) (fault : EtfFault) → (followed F G).Break term here bytes fault
+      → (followed F G).Break (term + n) (here + n) bytes (moved n fault)
   followed_break n term here bytes fault (inl h) = inl (f.break_moves n term here bytes fault h)
   followed_break n term here bytes fault (inr j) =
       let offset : here + length j.front + n ≡ here + n + length j.front = omega arith in
@@ -25,15 +26,19 @@ module _ {A B : Type 0} (F : Format A) (G : A → Format B) (f : IsMoving F) (g 
         front = j.front;
         rest = j.rest;
         first = j.first;
-        second = subst (λ k. (G j.value).Break (term + n) k j.rest (moved n fault)) offset ((g j.value j.front j.first).break_moves n term (here + length j.front) j.rest fault j.second);
+        second =
+            subst (λ k. (G j.value).Break (term + n) k j.rest (moved n fault)) offset
+            ((g j.value j.front j.first).break_moves n term (here + length j.front) j.rest fault j.second);
         whole = j.whole;
       })
 
   pub followed_moves : IsMoving (followed F G)
   followed_moves = record { break_moves = followed_break }
 
-module _ {A : Type 0} (F : Format A) (test : A → Bool) (fault : ℕ → A → EtfFault) (f : IsMoving F) (g : (n term : ℕ) (x : A) → moved n (fault term x) ≡ fault (term + n) x) where
-  tested_break : (n term here : ℕ) (bytes : List ℕ) (why : EtfFault) → (tested F test fault).Break term here bytes why → (tested F test fault).Break (term + n) (here + n) bytes (moved n why)
+module _ {A : Type 0} (F : Format A) (test : A → Bool) (fault : ℕ → A → EtfFault) (f : IsMoving F)
+    (g : (n term : ℕ) (x : A) → moved n (fault term x) ≡ fault (term + n) x) where
+  tested_break : (n term here : ℕ) (bytes : List ℕ) (why : EtfFault) → (tested F test fault).Break term here bytes why
+      → (tested F test fault).Break (term + n) (here + n) bytes (moved n why)
   tested_break n term here bytes why (inl h) = inl (f.break_moves n term here bytes why h)
   tested_break n term here bytes why (inr (x, w, t, same)) = inr (x, w, t, ap (moved n) same ∙ g n term x)
 

@@ -4,7 +4,8 @@ use Rattle.std.proofs.lemmas.List.{take-append-drop, length-take-le}
 use Rattle.dets_term.specs.IsTerm.{IsTerm}
 use Rattle.dets_term.specs.TermValue.{TermValue}
 use Rattle.etf_model.specs.declared.fault.EtfFault.{EtfFault}
-use Rattle.etf_model.specs.declared.fault.EtfFault.TheVariants.{Short, NotVersion, Unsupported, Compressed, IntegerRange, BadAtom, BadBits, RepeatedKey, Depth, LongTerm, Memory}
+use Rattle.etf_model.specs.declared.fault.EtfFault.TheVariants.{Short, NotVersion, Unsupported, Compressed, IntegerRange, BadAtom, BadBits, RepeatedKey, Depth}
+use Rattle.etf_model.specs.declared.fault.EtfFault.TheVariants.{LongTerm, Memory}
 use Rattle.etf_model.specs.declared.tags.TheConstants.{VERSION}
 use Rattle.etf_model.specs.Canonical.{canonical}
 use Rattle.etf_model.specs.Decoding.{IsDecoding}
@@ -48,9 +49,11 @@ settled bytes (Err (LongTerm at)) d other = broken_front bytes (LongTerm at) d
 pub one_decoding : (bytes : List ℕ) (r s : Result (TermValue × ℕ) EtfFault) → IsDecoding bytes r → IsDecoding bytes s → r ≢ Err Memory → s ≢ Err Memory → r ≡ s
 one_decoding bytes r s d e m n = sym (settled bytes r d m) ∙ settled bytes s e n
 
-pub decodes_to_its_term : (t : TermValue) (front rest : List ℕ) (r : Result (TermValue × ℕ) EtfFault) → Spells t front → IsDecoding (front ++ rest) r → r ≢ Err Memory → r ≡ Ok (t, length front)
+pub decodes_to_its_term : (t : TermValue) (front rest : List ℕ) (r : Result (TermValue × ℕ) EtfFault) → Spells t front → IsDecoding (front ++ rest) r
+    → r ≢ Err Memory → r ≡ Ok (t, length front)
 decodes_to_its_term t front rest r s d other = sym (settled (front ++ rest) r d other) ∙ spelled_front t front rest s
 
-pub encoding_decodes : (t : TermValue) (rest : List ℕ) (r : Result (TermValue × ℕ) EtfFault) → IsTerm t → IsDecoding ((VERSION ∷ canonical t) ++ rest) r → r ≢ Err Memory
+pub encoding_decodes : (t : TermValue) (rest : List ℕ) (r : Result (TermValue × ℕ) EtfFault) → IsTerm t → IsDecoding ((VERSION ∷ canonical t) ++ rest) r
+    → r ≢ Err Memory
     → r ≡ Ok (t, length (VERSION ∷ canonical t))
 encoding_decodes t rest r term d other = decodes_to_its_term t (VERSION ∷ canonical t) rest r (canonical_spells t term) d other

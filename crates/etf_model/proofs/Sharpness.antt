@@ -41,7 +41,8 @@ module _ {A B : Type 0} (F : Format A) (G : A → Format B) (f : IsSharp F) (g :
   ends_first front bytes e (inl n) = inl (e ∙ n)
   ends_first front bytes e (inr one) = inr (in_first bytes (record { front = one.front; last = one.last; holds = one.holds; whole = e ∙ one.whole }))
 
-  ends_second : (x : A) (front rest bytes : List ℕ) → F.Whole x front → bytes ≡ front ++ rest → (rest ≡ []) ⊎ OneMore (G x).Part rest → (bytes ≡ []) ⊎ OneMore (followed F G).Part bytes
+  ends_second : (x : A) (front rest bytes : List ℕ) → F.Whole x front → bytes ≡ front ++ rest → (rest ≡ []) ⊎ OneMore (G x).Part rest
+      → (bytes ≡ []) ⊎ OneMore (followed F G).Part bytes
   ends_second x front rest bytes w e (inl n) = ends_first front bytes (none_behind front rest bytes e n) (f.whole_sharp x front w)
   ends_second x front rest bytes w e (inr one) = inr (in_second x front rest bytes w e one)
 

@@ -38,8 +38,10 @@ unpacks a b c d e f g h = bits_equal (byte_bits (high_bits 8 (a ∷ b ∷ c ∷ 
 -- one table of all bytes
 unpacked : (a b c d e f g h : Bool) → byte_bits (high_bits 8 (a ∷ b ∷ c ∷ d ∷ e ∷ f ∷ g ∷ h ∷ [])) ≡ a ∷ b ∷ c ∷ d ∷ e ∷ f ∷ g ∷ h ∷ []
 unpacked a b c d e f g h =
-    let p1 = either_bit-at (λ a. either_bit (λ b. either_bit (λ c. either_bit (λ d. either_bit (λ e. either_bit (λ f. either_bit (λ g. either_bit (λ h. unpacks a b c d e f g h)))))))) refl a in
-    let p2 = either_bit-at (λ b. either_bit (λ c. either_bit (λ d. either_bit (λ e. either_bit (λ f. either_bit (λ g. either_bit (λ h. unpacks a b c d e f g h))))))) p1 b in
+    let p1 = either_bit-at (λ a. either_bit (λ b. either_bit
+    (λ c. either_bit (λ d. either_bit (λ e. either_bit (λ f. either_bit (λ g. either_bit (λ h. unpacks a b c d e f g h)))))))) refl a in
+    let p2 = either_bit-at (λ b. either_bit (λ c. either_bit
+    (λ d. either_bit (λ e. either_bit (λ f. either_bit (λ g. either_bit (λ h. unpacks a b c d e f g h))))))) p1 b in
     let p3 = either_bit-at (λ c. either_bit (λ d. either_bit (λ e. either_bit (λ f. either_bit (λ g. either_bit (λ h. unpacks a b c d e f g h)))))) p2 c in
     let p4 = either_bit-at (λ d. either_bit (λ e. either_bit (λ f. either_bit (λ g. either_bit (λ h. unpacks a b c d e f g h))))) p3 d in
     let p5 = either_bit-at (λ e. either_bit (λ f. either_bit (λ g. either_bit (λ h. unpacks a b c d e f g h)))) p4 e in

@@ -1,5 +1,6 @@
 -- The canonical spelling of integers, atoms and bit strings spells them.
-use Rattle.std.proofs.Common.{◌≡◌, ℕ, suc, ◌-◌, ◌*◌, ◌%◌, ◌^◌, ◌<◌, ◌≤◌, ℤ, pos, Bool, true, false, nat_lt, nat_le, List, [], ◌∷◌, ◌++◌, length, ⊎_elim, refl, sym, ap, ◌∙◌, subst, arith}
+use Rattle.std.proofs.Common.{◌≡◌, ℕ, suc, ◌-◌, ◌*◌, ◌%◌, ◌^◌, ◌<◌, ◌≤◌, ℤ, pos, Bool, true, false, nat_lt, nat_le, List, [], ◌∷◌, ◌++◌, length, ⊎_elim, refl}
+use Rattle.std.proofs.Common.{sym, ap, ◌∙◌, subst, arith}
 use Rattle.std.specs.Prelude.{negsuc}
 use Rattle.std.specs.Int.{bytes_high_first, w128}
 use Rattle.std.specs.Int.RustNames.{FitsSigned}
@@ -17,7 +18,8 @@ use Rattle.etf_model.specs.Spelling.{number, sized, big_integer, name, binary, b
 use Rattle.etf_model.specs.Canonical.{head, magnitude_bytes, big_spelling, integer_spelling, atom_spelling, packed, bits_spelling}
 use Rattle.etf_model.proofs.Unpacking.{packed-size, bits_of-packed}
 use Rattle.etf_model.specs.CanonicalWholes.{length-encodes-le}
-use Rattle.etf_model.proofs.WholeFormats.{value_after, whole_at, followed_whole, changed_whole, number_whole, sized_whole, times_byte_whole, big_whole, magnitude_bytes_whole, value-1, value-2, value-4}
+use Rattle.etf_model.proofs.WholeFormats.{value_after, whole_at, followed_whole, changed_whole, number_whole, sized_whole, times_byte_whole, big_whole}
+use Rattle.etf_model.proofs.WholeFormats.{magnitude_bytes_whole, value-1, value-2, value-4}
 
 -- bytes that are a known tag and what is whole behind it
 pub record Tagged (part tail : Format TermValue) (levels : ℕ) (t : TermValue) (bytes : List ℕ) : Type 0 where
@@ -28,7 +30,8 @@ pub record Tagged (part tail : Format TermValue) (levels : ℕ) (t : TermValue) 
   pub ends : is_list t ≡ false → begins_tail tag ≡ true
   pub inside : (body part tail levels tag).Whole t rest
 
-pub tagged_at : (part tail : Format TermValue) (levels : ℕ) (t : TermValue) (bytes cs : List ℕ) → bytes ≡ cs → Tagged part tail levels t bytes → Tagged part tail levels t cs
+pub tagged_at : (part tail : Format TermValue) (levels : ℕ) (t : TermValue) (bytes cs : List ℕ) → bytes ≡ cs → Tagged part tail levels t bytes
+    → Tagged part tail levels t cs
 tagged_at part tail levels t bytes cs e w = subst (Tagged part tail levels t) e w
 
 module _ (part tail : Format TermValue) (levels : ℕ) where
@@ -62,7 +65,9 @@ module _ (part tail : Format TermValue) (levels : ℕ) where
     same = refl;
     known = refl;
     ends = λ e. refl;
-    inside = whole_at (big_integer 1) (integer (signed sign m)) (integer z) _ _ (ap integer e) refl (big_whole sign m (magnitude_bytes m) (magnitude_bytes_whole (limit sign) m fits within));
+    inside =
+        whole_at (big_integer 1) (integer (signed sign m)) (integer z) _ _ (ap integer e) refl
+        (big_whole sign m (magnitude_bytes m) (magnitude_bytes_whole (limit sign) m fits within));
   }
 
   pub integer_tagged : (z : ℤ) → FitsSigned w128 z → Tagged part tail levels (integer z) (integer_spelling z)
@@ -78,13 +83,16 @@ module _ (part tail : Format TermValue) (levels : ℕ) where
   integer_tagged (negsuc n) fits =
       let magnitude : n < 2 ^ 127 = fits.sfits in
       ⊎_elim (λ k. tagged_at part tail levels (integer (negsuc n)) _ _ (sym (cond-true _ _ _ (lt-ltb n (2 ^ 31) k)))
-      (word (2 ^ 32 - suc n) (negsuc n) (omega arith) (cond-false (nat_lt (2 ^ 32 - suc n) (2 ^ 31)) _ _ (le-ltb (2 ^ 32 - suc n) (2 ^ 31) (omega arith)) ∙ omega (arith, ints))))
-      (λ k. tagged_at part tail levels (integer (negsuc n)) _ _ (sym (cond-false _ _ _ (le-ltb n (2 ^ 31) k))) (big 1 (suc n) (negsuc n) (omega arith) (omega arith) refl))
+      (word (2 ^ 32 - suc n) (negsuc n) (omega arith)
+      (cond-false (nat_lt (2 ^ 32 - suc n) (2 ^ 31)) _ _ (le-ltb (2 ^ 32 - suc n) (2 ^ 31) (omega arith)) ∙ omega (arith, ints))))
+      (λ k. tagged_at part tail levels (integer (negsuc n)) _ _ (sym (cond-false _ _ _ (le-ltb n (2 ^ 31) k)))
+      (big 1 (suc n) (negsuc n) (omega arith) (omega arith) refl))
       (cases_lt n (2 ^ 31))
 
   -- ---- atoms
 
-  text : (size tag : ℕ) (bytes : List ℕ) → is_known tag ≡ true → begins_tail tag ≡ true → value_after 0 size (length bytes) ≡ length bytes → is_name true bytes ≡ true
+  text : (size tag : ℕ) (bytes : List ℕ) → is_known tag ≡ true → begins_tail tag ≡ true → value_after 0 size (length bytes) ≡ length bytes
+      → is_name true bytes ≡ true
       → ((body part tail levels tag) ≡ name true size) → Tagged part tail levels (atom (chars bytes)) (head tag size (length bytes) ++ bytes)
   text size tag bytes known ends fits good is = record {
     tag = tag;
@@ -93,7 +101,8 @@ module _ (part tail : Format TermValue) (levels : ℕ) where
     known = known;
     ends = λ e. ends;
     inside = subst (λ (F : Format TermValue). F.Whole (atom (chars bytes)) (bytes_high_first size (length bytes) ++ bytes)) (sym is)
-        (changed_whole (tested (sized size) (is_name true) (λ term bytes. BadAtom term)) (λ bytes. atom (characters true bytes)) bytes (bytes_high_first size (length bytes) ++ bytes)
+        (changed_whole (tested (sized size) (is_name true) (λ term bytes. BadAtom term)) (λ bytes. atom (characters true bytes)) bytes
+        (bytes_high_first size (length bytes) ++ bytes)
         (sized_whole size bytes fits, good));
   }
 
@@ -103,7 +112,8 @@ module _ (part tail : Format TermValue) (levels : ℕ) where
       let back = chars-encodes name scalars in
       let size = length-encodes-le name in
       let utf8 = is_utf8-from_IsUtf8 bytes (name, (scalars, refl)) in
-      let good : is_name true bytes ≡ true = and_from (is_utf8 bytes) (nat_le (length (chars bytes)) 255) utf8 (ap (λ cs. nat_le (length cs) 255) back ∙ le-leb (length name) 255 short) in
+      let good : is_name true bytes ≡ true =
+      and_from (is_utf8 bytes) (nat_le (length (chars bytes)) 255) utf8 (ap (λ cs. nat_le (length cs) 255) back ∙ le-leb (length name) 255 short) in
       subst (λ cs. Tagged part tail levels (atom cs) (atom_spelling name)) back
       (⊎_elim (λ h. tagged_at part tail levels (atom (chars bytes)) _ _ (ap (λ b. b ++ bytes) (sym (cond-true _ _ _ (le-leb (length bytes) 255 (omega arith)))))
       (text 1 119 bytes refl refl (value-1 (length bytes) (omega arith)) good refl))
@@ -137,7 +147,8 @@ module _ (part tail : Format TermValue) (levels : ℕ) where
         known = refl;
         ends = λ e. refl;
         inside = whole_at bit_binary (bits (bits_of bytes used)) (bits bs) _ _ (ap bits (bits_of-packed bs used (omega arith) (omega arith) (omega arith))) refl
-            (followed_whole (number 4) (λ n. followed (tested byte (may_use n) (λ term x. BadBits term)) (λ used. changed (times n byte) (λ bytes. bits (bits_of bytes used))))
+            (followed_whole (number 4) (λ n. followed (tested byte (may_use n) (λ term x. BadBits term))
+            (λ used. changed (times n byte) (λ bytes. bits (bits_of bytes used))))
             n (bits (bits_of bytes used)) (bytes_high_first 4 n) (used ∷ bytes) (number_whole 4 n (value-4 n (omega arith)))
             (followed_whole (tested byte (may_use n) (λ term x. BadBits term)) (λ used. changed (times n byte) (λ bytes. bits (bits_of bytes used)))
             used (bits (bits_of bytes used)) (used ∷ []) bytes

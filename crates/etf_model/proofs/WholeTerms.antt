@@ -1,5 +1,6 @@
 -- The canonical spelling of tuples, lists and maps spells them where that of their parts does.
-use Rattle.std.proofs.Common.{◌≡◌, ℕ, zero, suc, ◌^◌, ◌<◌, ◌≤◌, true, false, not, ◌==◌, cond, List, [], ◌∷◌, ◌++◌, length, map, ⊎_elim, refl, sym, ap, ◌∙◌, subst, arith, append_assoc}
+use Rattle.std.proofs.Common.{◌≡◌, ℕ, zero, suc, ◌^◌, ◌<◌, ◌≤◌, true, false, not, ◌==◌, cond, List, [], ◌∷◌, ◌++◌, length, map, ⊎_elim, refl, sym, ap, ◌∙◌}
+use Rattle.std.proofs.Common.{subst, arith, append_assoc}
 use Rattle.std.specs.List.{flat_map, list_any, list_all, AllByRecursion}
 use Rattle.std.specs.Int.{bytes_high_first}
 use Rattle.std.specs.declared.cmp.Ordering.TheVariants.{Less}
@@ -20,7 +21,8 @@ use Rattle.etf_model.specs.Format.{Format, byte, followed, tested, framed, chang
 use Rattle.etf_model.specs.Layout.{integers}
 use Rattle.etf_model.specs.Spelling.{may_have_parts, count, tuple_of, no_tail, pairs_after}
 use Rattle.etf_model.specs.Canonical.{canonical, head, tuple_head, is_byte, byte_value}
-use Rattle.etf_model.proofs.WholeFormats.{value_after, whole_at, followed_whole, changed_whole, MayCount, count_whole, times_byte_whole, times_whole, value-1, value-2, value-4}
+use Rattle.etf_model.proofs.WholeFormats.{value_after, whole_at, followed_whole, changed_whole, MayCount, count_whole, times_byte_whole, times_whole, value-1}
+use Rattle.etf_model.proofs.WholeFormats.{value-2, value-4}
 use Rattle.etf_model.proofs.WholeLeaves.{Tagged, tagged_at}
 
 -- a term may have parts where levels are left for them
@@ -66,7 +68,8 @@ none_same (l ∷ ks) k rest up =
     or_from (is_same k l) (list_any (is_same k) ks) (apart k l (above k l ks rest (all_above l (ks ++ k ∷ rest) up.0 up.1))) (none_same ks k rest up.1)
 
 -- a pair with a greater key goes last
-last_placed : (seen : List (TermValue × TermValue)) (p : TermValue × TermValue) (rest : List TermValue) → AreAscending (keys seen ++ p.0 ∷ rest) → placed p seen ≡ seen ++ p ∷ []
+last_placed : (seen : List (TermValue × TermValue)) (p : TermValue × TermValue) (rest : List TermValue) → AreAscending (keys seen ++ p.0 ∷ rest)
+    → placed p seen ≡ seen ++ p ∷ []
 last_placed [] p rest up = refl
 last_placed (q ∷ seen) p rest up =
     let less = above p.0 q.0 (keys seen) rest (all_above q.0 (keys seen ++ p.0 ∷ rest) up.0 up.1) in
@@ -78,10 +81,12 @@ module _ (part tail : Format TermValue) (levels : ℕ) where
   abbrev pub IsPart : TermValue → Type 0
   IsPart t = part.Whole t (canonical t)
 
-  tuple_whole : (size : ℕ) (ts : List TermValue) → value_after 0 size (length ts) ≡ length ts → MayCount (may_have_parts levels) (length ts) → AllByRecursion IsPart ts
+  tuple_whole : (size : ℕ) (ts : List TermValue) → value_after 0 size (length ts) ≡ length ts → MayCount (may_have_parts levels) (length ts)
+      → AllByRecursion IsPart ts
       → (tuple_of part levels size).Whole (tuple (chain ts nil)) (bytes_high_first size (length ts) ++ flat_map canonical ts)
   tuple_whole size ts value may all =
-      followed_whole (count levels size) (λ n. changed (times n part) (λ ts. tuple (chain ts nil))) (length ts) (tuple (chain ts nil)) (bytes_high_first size (length ts)) (flat_map canonical ts)
+      followed_whole (count levels size) (λ n. changed (times n part) (λ ts. tuple (chain ts nil))) (length ts) (tuple (chain ts nil))
+      (bytes_high_first size (length ts)) (flat_map canonical ts)
       (count_whole (may_have_parts levels) size (length ts) may value)
       (changed_whole (times (length ts) part) (λ ts. tuple (chain ts nil)) ts (flat_map canonical ts) (times_whole part canonical ts all))
 
@@ -89,7 +94,8 @@ module _ (part tail : Format TermValue) (levels : ℕ) where
       → Tagged part tail levels (tuple (chain ts nil)) (tuple_head (length ts) ++ flat_map canonical ts)
   tuple_tagged ts fits may all =
       let n = length ts in
-      ⊎_elim (λ h. tagged_at part tail levels (tuple (chain ts nil)) _ _ (ap (λ b. b ++ flat_map canonical ts) (sym (cond-true _ _ _ (le-leb n 255 (omega arith))))) (record {
+      ⊎_elim (λ h. tagged_at part tail levels (tuple (chain ts nil)) _ _
+      (ap (λ b. b ++ flat_map canonical ts) (sym (cond-true _ _ _ (le-leb n 255 (omega arith))))) (record {
         tag = 104;
         rest = bytes_high_first 1 n ++ flat_map canonical ts;
         same = refl;
@@ -107,7 +113,8 @@ module _ (part tail : Format TermValue) (levels : ℕ) where
       }))
       (cases_lt n 256)
 
-  pub string_tagged : (ts : List TermValue) (t : TermValue) → chain ts nil ≡ t → is_list t ≡ true → length ts ≤ 65535 → list_all is_byte ts ≡ true → MayCount (may_have_parts levels) (length ts)
+  pub string_tagged : (ts : List TermValue) (t : TermValue) → chain ts nil ≡ t → is_list t ≡ true → length ts ≤ 65535 → list_all is_byte ts ≡ true
+      → MayCount (may_have_parts levels) (length ts)
       → Tagged part tail levels t (head STRING 2 (length ts) ++ map byte_value ts)
   string_tagged ts t e is fits all may =
       let n = length ts in
@@ -121,10 +128,12 @@ module _ (part tail : Format TermValue) (levels : ℕ) where
         inside = followed_whole (count levels 2) (λ n. changed (times n byte) integers) n t (bytes_high_first 2 n) bytes
             (count_whole (may_have_parts levels) 2 n may (value-2 n (omega arith)))
             (whole_at (changed (times n byte) integers) (integers bytes) t bytes bytes (integers-bytes ts all ∙ e) refl
-            (changed_whole (times n byte) integers bytes bytes (subst (λ (k : ℕ). (times k byte).Whole bytes bytes) (length-map ts byte_value) (times_byte_whole bytes))));
+            (changed_whole (times n byte) integers bytes bytes
+            (subst (λ (k : ℕ). (times k byte).Whole bytes bytes) (length-map ts byte_value) (times_byte_whole bytes))));
       }
 
-  pub list_tagged : (ts : List TermValue) (end t : TermValue) (ending : List ℕ) → chain ts end ≡ t → is_list t ≡ true → 0 < length ts → length ts < 2 ^ 32 → MayCount (may_have_parts levels) (length ts)
+  pub list_tagged : (ts : List TermValue) (end t : TermValue) (ending : List ℕ) → chain ts end ≡ t → is_list t ≡ true → 0 < length ts → length ts < 2 ^ 32
+      → MayCount (may_have_parts levels) (length ts)
       → AllByRecursion IsPart ts → tail.Whole end ending → Tagged part tail levels t (head LIST 4 (length ts) ++ (flat_map canonical ts ++ ending))
   list_tagged ts end t ending e is some fits may all last =
       let n = length ts in
@@ -136,9 +145,12 @@ module _ (part tail : Format TermValue) (levels : ℕ) where
         same = refl;
         known = refl;
         ends = λ other. cc;
-        inside = followed_whole (count levels 4) (λ n. followed (times n part) (λ ts. changed (either (n == 0) no_tail tail) (λ end. chain ts end))) n t (bytes_high_first 4 n) (flat_map canonical ts ++ ending)
+        inside =
+            followed_whole (count levels 4) (λ n. followed (times n part) (λ ts. changed (either (n == 0) no_tail tail) (λ end. chain ts end))) n t
+            (bytes_high_first 4 n) (flat_map canonical ts ++ ending)
             (count_whole (may_have_parts levels) 4 n may (value-4 n fits))
-            (followed_whole (times n part) (λ ts. changed (either (n == 0) no_tail tail) (λ end. chain ts end)) ts t (flat_map canonical ts) ending (times_whole part canonical ts all)
+            (followed_whole (times n part) (λ ts. changed (either (n == 0) no_tail tail) (λ end. chain ts end)) ts t (flat_map canonical ts) ending
+            (times_whole part canonical ts all)
             (whole_at (changed (either (n == 0) no_tail tail) (λ end. chain ts end)) (chain ts end) t ending ending e refl
             (changed_whole (either (n == 0) no_tail tail) (λ end. chain ts end) end ending ended)));
       }
@@ -157,15 +169,18 @@ module _ (part tail : Format TermValue) (levels : ℕ) where
       let last = last_placed seen p (keys ps) ascending in
       let next = append_assoc seen (p ∷ []) ps in
       let rest = pairs_whole (seen ++ p ∷ []) ps (subst (λ qs. AreAscending (keys qs)) (sym next) up) all.1 in
-      whole_at (pairs_after part seen (suc (length ps))) (seen ++ p ∷ ps) (seen ++ p ∷ ps) _ _ refl (sym (append_assoc (canonical p.0) (canonical p.1) (flat_map spelled_pair ps)))
+      whole_at (pairs_after part seen (suc (length ps))) (seen ++ p ∷ ps) (seen ++ p ∷ ps) _ _ refl
+      (sym (append_assoc (canonical p.0) (canonical p.1) (flat_map spelled_pair ps)))
       (followed_whole (framed (tested part (λ k. not (list_any (is_same k) (keys seen))) (λ term k. RepeatedKey term)))
-      (λ k. followed part (λ v. pairs_after part (placed (k, v) seen) (length ps))) p.0 (seen ++ p ∷ ps) (canonical p.0) (canonical p.1 ++ flat_map spelled_pair ps)
+      (λ k. followed part (λ v. pairs_after part (placed (k, v) seen) (length ps))) p.0 (seen ++ p ∷ ps) (canonical p.0)
+      (canonical p.1 ++ flat_map spelled_pair ps)
       (all.0.0, not_from_false _ new)
       (followed_whole part (λ v. pairs_after part (placed (p.0, v) seen) (length ps)) p.1 (seen ++ p ∷ ps) (canonical p.1) (flat_map spelled_pair ps) all.0.1
       (whole_at (pairs_after part (placed p seen) (length ps)) ((seen ++ p ∷ []) ++ ps) (seen ++ p ∷ ps) _ _ next refl
       (subst (λ qs. (pairs_after part qs (length ps)).Whole ((seen ++ p ∷ []) ++ ps) (flat_map spelled_pair ps)) (sym last) rest))))
 
-  pub map_tagged : (ps : List (TermValue × TermValue)) → length ps < 2 ^ 32 → MayCount (may_have_parts levels) (length ps) → AreAscending (keys ps) → AllByRecursion (λ p. IsPart p.0 × IsPart p.1) ps
+  pub map_tagged : (ps : List (TermValue × TermValue)) → length ps < 2 ^ 32 → MayCount (may_have_parts levels) (length ps) → AreAscending (keys ps)
+      → AllByRecursion (λ p. IsPart p.0 × IsPart p.1) ps
       → Tagged part tail levels (map_of ps) (head MAP 4 (length ps) ++ flat_map spelled_pair ps)
   map_tagged ps fits may up all =
       let n = length ps in

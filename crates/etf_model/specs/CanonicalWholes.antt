@@ -60,7 +60,8 @@ pub length-canonical_each : (ts : List TermValue) (tail : TermValue) → canonic
 length-canonical_each [] tail e = ap length e
 length-canonical_each (t ∷ ts) tail e = ap suc (length-canonical_each ts tail e)
 
-pub concat-canonical_each : (ts : List TermValue) (tail : TermValue) → canonical_each tail ≡ [] → concat (canonical_each (chain ts tail)) ≡ flat_map canonical ts
+pub concat-canonical_each : (ts : List TermValue) (tail : TermValue) → canonical_each tail ≡ []
+    → concat (canonical_each (chain ts tail)) ≡ flat_map canonical ts
 concat-canonical_each [] tail e = ap concat e
 concat-canonical_each (t ∷ ts) tail e = ap (λ bytes. canonical t ++ bytes) (concat-canonical_each ts tail e)
 

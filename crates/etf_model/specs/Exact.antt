@@ -16,7 +16,8 @@ pub record Between (P : List ℕ → Type 0) (before behind : Position) : Type 0
 pub record IsExact {A : Type 0} (F : Format A) : Type 0 where
   pub read_whole : (term : ℕ) (position : Position) (x : A) (behind : Position) → F.read term position ≡ Ok (x, behind) → Between (F.Whole x) position behind
   pub read_part : (term : ℕ) (position : Position) → F.read term position ≡ Err Short → F.Part position.left
-  pub read_break : (term : ℕ) (position : Position) (fault : EtfFault) → F.read term position ≡ Err fault → fault ≢ Short → Begins (λ front. F.Break term position.offset front fault) position.left
+  pub read_break : (term : ℕ) (position : Position) (fault : EtfFault) → F.read term position ≡ Err fault → fault ≢ Short
+      → Begins (λ front. F.Break term position.offset front fault) position.left
   pub whole_read : (term here : ℕ) (x : A) (front rest : List ℕ) → F.Whole x front
       → F.read term (record { offset = here; left = front ++ rest }) ≡ Ok (x, record { offset = here + length front; left = rest })
   pub part_read : (term here : ℕ) (bytes : List ℕ) → F.Part bytes → F.read term (record { offset = here; left = bytes }) ≡ Err Short

@@ -1,5 +1,6 @@
 -- The reading of a format that is put together agrees with its relations where its parts' do.
-use Rattle.std.proofs.Common.{◌≡◌, ◌≢◌, ℕ, ◌+◌, Bool, true, false, List, [], ◌∷◌, ◌++◌, length, length-append, Ok, Err, inl, inr, refl, ap, ◌∙◌, sym, subst, append_assoc, arith}
+use Rattle.std.proofs.Common.{◌≡◌, ◌≢◌, ℕ, ◌+◌, Bool, true, false, List, [], ◌∷◌, ◌++◌, length, length-append, Ok, Err, inl, inr, refl, ap, ◌∙◌, sym, subst}
+use Rattle.std.proofs.Common.{append_assoc, arith}
 use Rattle.etf_model.specs.declared.fault.EtfFault.{EtfFault}
 use Rattle.etf_model.specs.declared.fault.EtfFault.TheVariants.{Short}
 use Rattle.etf_model.specs.Format.{Position, Reading, Format, first_byte, byte, give, go_on, followed, judged, tested, framed}
@@ -87,7 +88,14 @@ module _ {A B : Type 0} (F : Format A) (G : A → Format B) (f : IsExact F) (g :
   followed_part term position (Err fault) e h = let same : fault ≡ Short = cc in inl (f.read_part term position (e ∙ ap Err same))
   followed_part term position (Ok (x, mid)) e h =
       let first = f.read_whole term position x mid e in
-      inr (record { value = x; front = first.front; rest = mid.left; first = first.holds; second = (g x first.front first.holds).read_part term mid h; whole = first.bytes })
+      inr (record {
+        value = x;
+        front = first.front;
+        rest = mid.left;
+        first = first.holds;
+        second = (g x first.front first.holds).read_part term mid h;
+        whole = first.bytes;
+      })
 
   followed_break : (term : ℕ) (position : Position) (fault : EtfFault) (r : Reading A) → F.read term position ≡ r
       → go_on r (behind_first term) ≡ Err fault → fault ≢ Short → Begins (λ front. (followed F G).Break term position.offset front fault) position.left
@@ -101,13 +109,22 @@ module _ {A B : Type 0} (F : Format A) (G : A → Format B) (f : IsExact F) (g :
       record {
         front = first.front ++ second.front;
         rest = second.rest;
-        holds = inr (record { value = x; front = first.front; rest = second.front; first = first.holds; second = subst (λ n. (G x).Break term n second.front fault) first.offset second.holds; whole = refl });
+        holds =
+            inr (record {
+              value = x;
+              front = first.front;
+              rest = second.front;
+              first = first.holds;
+              second = subst (λ n. (G x).Break term n second.front fault) first.offset second.holds;
+              whole = refl;
+            });
         whole = first.bytes ∙ ap (λ l. first.front ++ l) second.whole ∙ sym (append_assoc first.front second.front second.rest);
       }
 
   -- reading a whole of the first and then the second
   past_first : (term here : ℕ) (x : A) (front rest bytes : List ℕ) → F.Whole x front → bytes ≡ front ++ rest
-      → go_on (F.read term (record { offset = here; left = bytes })) (behind_first term) ≡ (G x).read term (record { offset = here + length front; left = rest })
+      → go_on (F.read term (record { offset = here; left = bytes })) (behind_first term) ≡ (G x).read term
+      (record { offset = here + length front; left = rest })
   past_first term here x front rest bytes h e =
       ap (λ l. go_on (F.read term (record { offset = here; left = l })) (behind_first term)) e
       ∙ ap (λ r. go_on r (behind_first term)) (f.whole_read term here x front rest h)
@@ -150,7 +167,8 @@ module _ {A B : Type 0} (F : Format A) (G : A → Format B) (f : IsExact F) (g :
 
 -- ---- a test
 
-module _ {A : Type 0} (F : Format A) (test : A → Bool) (fault : ℕ → A → EtfFault) (f : IsExact F) (g : (term : ℕ) (x : A) → test x ≡ false → fault term x ≢ Short) where
+module _ {A : Type 0} (F : Format A) (test : A → Bool) (fault : ℕ → A → EtfFault) (f : IsExact F)
+    (g : (term : ℕ) (x : A) → test x ≡ false → fault term x ≢ Short) where
   abbrev judge : ℕ → A → Position → Reading A
   judge term x behind = judged (test x) (fault term x) x behind
 

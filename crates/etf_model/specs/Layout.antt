@@ -4,11 +4,14 @@ use Rattle.std.specs.Prelude.{ℕ, ◌-◌, ◌^◌, ℤ, pos, neg_ℤ, ◌-ℤ�
 use Rattle.std.specs.List.{list_any}
 use Rattle.std.specs.Str.{is_utf8, chars}
 use Rattle.dets_term.specs.TermValue.{TermValue, integer, chain, nil}
-use Rattle.etf_model.specs.declared.tags.TheConstants.{SMALL_INTEGER, INTEGER, SMALL_BIG, LARGE_BIG, ATOM, SMALL_ATOM, ATOM_UTF8, SMALL_ATOM_UTF8, SMALL_TUPLE, LARGE_TUPLE, NIL, STRING, LIST, BINARY, BIT_BINARY, MAP}
+use Rattle.etf_model.specs.declared.tags.TheConstants.{SMALL_INTEGER, INTEGER, SMALL_BIG, LARGE_BIG, ATOM, SMALL_ATOM, ATOM_UTF8, SMALL_ATOM_UTF8, SMALL_TUPLE}
+use Rattle.etf_model.specs.declared.tags.TheConstants.{LARGE_TUPLE, NIL, STRING, LIST, BINARY, BIT_BINARY, MAP}
 
 -- the tags of this project's terms
 abbrev pub known_tags : List ℕ
-known_tags = SMALL_INTEGER ∷ INTEGER ∷ SMALL_BIG ∷ LARGE_BIG ∷ ATOM ∷ SMALL_ATOM ∷ ATOM_UTF8 ∷ SMALL_ATOM_UTF8 ∷ SMALL_TUPLE ∷ LARGE_TUPLE ∷ NIL ∷ STRING ∷ LIST ∷ BINARY ∷ BIT_BINARY ∷ MAP ∷ []
+known_tags =
+    SMALL_INTEGER ∷ INTEGER ∷ SMALL_BIG ∷ LARGE_BIG ∷ ATOM ∷ SMALL_ATOM ∷ ATOM_UTF8 ∷ SMALL_ATOM_UTF8 ∷ SMALL_TUPLE ∷ LARGE_TUPLE ∷ NIL ∷ STRING ∷ LIST ∷ BINARY
+    ∷ BIT_BINARY ∷ MAP ∷ []
 
 -- a tag that begins a term
 abbrev pub is_known : ℕ → Bool

@@ -1,7 +1,8 @@
 -- Faults in bytes that begin at another offset.
 use Rattle.std.specs.Prelude.{ℕ, ◌+◌}
 use Rattle.etf_model.specs.declared.fault.EtfFault.{EtfFault}
-use Rattle.etf_model.specs.declared.fault.EtfFault.TheVariants.{Short, NotVersion, Unsupported, Compressed, IntegerRange, BadAtom, BadBits, RepeatedKey, Depth, LongTerm, Memory}
+use Rattle.etf_model.specs.declared.fault.EtfFault.TheVariants.{Short, NotVersion, Unsupported, Compressed, IntegerRange, BadAtom, BadBits, RepeatedKey, Depth}
+use Rattle.etf_model.specs.declared.fault.EtfFault.TheVariants.{LongTerm, Memory}
 
 -- a fault so many bytes further on
 abbrev pub moved : ℕ → EtfFault → EtfFault

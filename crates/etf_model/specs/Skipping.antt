@@ -4,7 +4,9 @@ use Rattle.std.specs.Prelude.{ℕ, zero, suc, ◌+◌, ◌*◌, Bool, false, ◌
 use Rattle.std.specs.List.{list_any}
 use Rattle.etf_model.specs.declared.fault.EtfFault.{EtfFault}
 use Rattle.etf_model.specs.declared.fault.EtfFault.TheVariants.{Short, Unsupported, Depth, Memory}
-use Rattle.etf_model.specs.declared.tags.TheConstants.{SMALL_INTEGER, INTEGER, SMALL_BIG, LARGE_BIG, ATOM, SMALL_ATOM, ATOM_UTF8, SMALL_ATOM_UTF8, SMALL_TUPLE, LARGE_TUPLE, STRING, LIST, BINARY, BIT_BINARY, MAP, NEW_FLOAT, PID, NEW_PID, PORT, NEW_PORT, V4_PORT, NEW_REFERENCE, NEWER_REFERENCE}
+use Rattle.etf_model.specs.declared.tags.TheConstants.{SMALL_INTEGER, INTEGER, SMALL_BIG, LARGE_BIG, ATOM, SMALL_ATOM, ATOM_UTF8, SMALL_ATOM_UTF8, SMALL_TUPLE}
+use Rattle.etf_model.specs.declared.tags.TheConstants.{LARGE_TUPLE, STRING, LIST, BINARY, BIT_BINARY, MAP, NEW_FLOAT, PID, NEW_PID, PORT, NEW_PORT, V4_PORT}
+use Rattle.etf_model.specs.declared.tags.TheConstants.{NEW_REFERENCE, NEWER_REFERENCE}
 use Rattle.etf_model.specs.Format.{Format, byte, followed, framed, changed, either, times}
 use Rattle.etf_model.specs.Fronts.{Begins}
 use Rattle.etf_model.specs.Answers.{IsFront, Answers}

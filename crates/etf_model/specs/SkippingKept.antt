@@ -2,7 +2,9 @@
 use Rattle.std.proofs.Common.{ℕ, zero, suc, ◌+◌, ◌*◌, false, ◌||◌, ◌==◌}
 use Rattle.etf_model.specs.declared.fault.EtfFault.{EtfFault}
 use Rattle.etf_model.specs.declared.fault.EtfFault.TheVariants.{Unsupported, Depth}
-use Rattle.etf_model.specs.declared.tags.TheConstants.{SMALL_INTEGER, INTEGER, SMALL_BIG, LARGE_BIG, ATOM, SMALL_ATOM, ATOM_UTF8, SMALL_ATOM_UTF8, SMALL_TUPLE, LARGE_TUPLE, STRING, LIST, BINARY, BIT_BINARY, MAP, NEW_FLOAT, PID, NEW_PID, PORT, NEW_PORT, V4_PORT, NEW_REFERENCE, NEWER_REFERENCE}
+use Rattle.etf_model.specs.declared.tags.TheConstants.{SMALL_INTEGER, INTEGER, SMALL_BIG, LARGE_BIG, ATOM, SMALL_ATOM, ATOM_UTF8, SMALL_ATOM_UTF8, SMALL_TUPLE}
+use Rattle.etf_model.specs.declared.tags.TheConstants.{LARGE_TUPLE, STRING, LIST, BINARY, BIT_BINARY, MAP, NEW_FLOAT, PID, NEW_PID, PORT, NEW_PORT, V4_PORT}
+use Rattle.etf_model.specs.declared.tags.TheConstants.{NEW_REFERENCE, NEWER_REFERENCE}
 use Rattle.etf_model.specs.Format.{Format, byte, followed, changed, either, times}
 use Rattle.etf_model.specs.Spelling.{number, tag_of}
 use Rattle.etf_model.specs.Skipping.{has_layout, begins_node, gap, sized_gap, node, at_node, reference, parts, counted, skip_body, skipped_at, skipped}
@@ -19,10 +21,13 @@ module _ {Told : (A : Type 0) → (ℕ → A → EtfFault) → Type 0} (P : (A :
 
   node-kept : P (Unit {0}) node
   node-kept =
-      kept.of_framed (followed (tag_of begins_node (λ term x. Unsupported term x)) (λ tag. either (tag == SMALL_ATOM || tag == SMALL_ATOM_UTF8) (sized_gap 1 0) (sized_gap 2 0)))
-      (kept.of_followed (tag_of begins_node (λ term x. Unsupported term x)) (λ tag. either (tag == SMALL_ATOM || tag == SMALL_ATOM_UTF8) (sized_gap 1 0) (sized_gap 2 0))
+      kept.of_framed (followed (tag_of begins_node (λ term x. Unsupported term x))
+      (λ tag. either (tag == SMALL_ATOM || tag == SMALL_ATOM_UTF8) (sized_gap 1 0) (sized_gap 2 0)))
+      (kept.of_followed (tag_of begins_node (λ term x. Unsupported term x))
+      (λ tag. either (tag == SMALL_ATOM || tag == SMALL_ATOM_UTF8) (sized_gap 1 0) (sized_gap 2 0))
       (tested_byte-kept P kept begins_node (λ term x. Unsupported term x) tag_told)
-      (λ tag front w. either-kept P kept (tag == SMALL_ATOM || tag == SMALL_ATOM_UTF8) (sized_gap 1 0) (sized_gap 2 0) (sized_gap-kept 1 0) (λ _. sized_gap-kept 2 0)))
+      (λ tag front w. either-kept P kept (tag == SMALL_ATOM || tag == SMALL_ATOM_UTF8) (sized_gap 1 0) (sized_gap 2 0) (sized_gap-kept 1 0)
+      (λ _. sized_gap-kept 2 0)))
 
   at_node-kept : (n : ℕ) → P (Unit {0}) (at_node n)
   at_node-kept n = kept.of_followed node (λ name. gap n) node-kept (λ name front w. gap-kept n)

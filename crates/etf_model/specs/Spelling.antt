@@ -7,7 +7,8 @@ use Rattle.dets_term.specs.Pairs.{keys, placed}
 use Rattle.dets_term.specs.BitString.{bits_of}
 use Rattle.etf_model.specs.declared.fault.EtfFault.{EtfFault}
 use Rattle.etf_model.specs.declared.fault.EtfFault.TheVariants.{NotVersion, Unsupported, Compressed, IntegerRange, BadAtom, BadBits, RepeatedKey, Depth}
-use Rattle.etf_model.specs.declared.tags.TheConstants.{VERSION, COMPRESSED, SMALL_INTEGER, INTEGER, SMALL_BIG, LARGE_BIG, ATOM, SMALL_ATOM, ATOM_UTF8, SMALL_ATOM_UTF8, SMALL_TUPLE, LARGE_TUPLE, NIL, STRING, LIST, BINARY, BIT_BINARY, MAP}
+use Rattle.etf_model.specs.declared.tags.TheConstants.{VERSION, COMPRESSED, SMALL_INTEGER, INTEGER, SMALL_BIG, LARGE_BIG, ATOM, SMALL_ATOM, ATOM_UTF8}
+use Rattle.etf_model.specs.declared.tags.TheConstants.{SMALL_ATOM_UTF8, SMALL_TUPLE, LARGE_TUPLE, NIL, STRING, LIST, BINARY, BIT_BINARY, MAP}
 use Rattle.etf_model.specs.Format.{Format, byte, give, followed, tested, framed, changed, either, times, refused}
 use Rattle.etf_model.specs.Fronts.{Begins}
 use Rattle.etf_model.specs.Layout.{is_known, begins_tail, signed_32, signed, limit, characters, is_name, may_use, integers}

@@ -7,13 +7,17 @@ use Rattle.dets_term.specs.Order.{is_same}
 use Rattle.dets_term.specs.Pairs.{keys, placed}
 use Rattle.dets_term.specs.BitString.{bits_of}
 use Rattle.etf_model.specs.declared.fault.EtfFault.{EtfFault}
-use Rattle.etf_model.specs.declared.fault.EtfFault.TheVariants.{Short, Memory, NotVersion, Unsupported, Compressed, IntegerRange, BadAtom, BadBits, RepeatedKey, Depth, LongTerm}
-use Rattle.etf_model.specs.declared.tags.TheConstants.{VERSION, COMPRESSED, SMALL_INTEGER, INTEGER, SMALL_BIG, LARGE_BIG, ATOM, SMALL_ATOM, ATOM_UTF8, SMALL_ATOM_UTF8, SMALL_TUPLE, LARGE_TUPLE, NIL, STRING, LIST, BINARY, BIT_BINARY, MAP}
+use Rattle.etf_model.specs.declared.fault.EtfFault.TheVariants.{Short, Memory, NotVersion, Unsupported, Compressed, IntegerRange, BadAtom, BadBits, RepeatedKey}
+use Rattle.etf_model.specs.declared.fault.EtfFault.TheVariants.{Depth, LongTerm}
+use Rattle.etf_model.specs.declared.tags.TheConstants.{VERSION, COMPRESSED, SMALL_INTEGER, INTEGER, SMALL_BIG, LARGE_BIG, ATOM, SMALL_ATOM, ATOM_UTF8}
+use Rattle.etf_model.specs.declared.tags.TheConstants.{SMALL_ATOM_UTF8, SMALL_TUPLE, LARGE_TUPLE, NIL, STRING, LIST, BINARY, BIT_BINARY, MAP}
 use Rattle.etf_model.specs.Format.{Format, byte, followed, tested, framed, changed, either, times}
 use Rattle.etf_model.specs.Sharp.{HasBytes}
 use Rattle.etf_model.specs.Moved.{moved}
 use Rattle.etf_model.specs.Layout.{is_known, begins_tail, signed_32, signed, limit, characters, is_name, may_use, integers}
-use Rattle.etf_model.specs.Spelling.{number_after, number, sized, may_have_parts, count_after, count, magnitude_after, big_integer, name, binary, bit_binary, string, tuple_of, no_tail, list_of, pairs_after, map_format, body, tag_of, term_with, part_at, tail_at, outermost, spelling, body_of}
+use Rattle.etf_model.specs.Spelling.{number_after, number, sized, may_have_parts, count_after, count, magnitude_after, big_integer, name, binary, bit_binary}
+use Rattle.etf_model.specs.Spelling.{string, tuple_of, no_tail, list_of, pairs_after, map_format, body, tag_of, term_with, part_at, tail_at, outermost}
+use Rattle.etf_model.specs.Spelling.{spelling, body_of}
 use Rattle.etf_model.specs.Kept.{TellsOffset, IsKept, IsKeptWhere, changed-kept, either-kept, times-kept, byte_some, followed_some, tested_some}
 
 -- ---- the faults tell offsets
@@ -86,11 +90,14 @@ some_counted (suc levels) size n bytes h some = refl
 term_some : (test : ℕ → Bool) (fault : ℕ → ℕ → EtfFault) (levels : ℕ) → HasBytes (term_with test fault levels)
 term_some test fault zero = λ x bytes h n. h
 term_some test fault (suc levels) =
-    followed_some (tag_of test fault) (body (term_with is_known (λ term x. Unsupported term x) levels) (term_with begins_tail (λ term x. Unsupported term x) levels) levels)
+    followed_some (tag_of test fault)
+    (body (term_with is_known (λ term x. Unsupported term x) levels) (term_with begins_tail (λ term x. Unsupported term x) levels) levels)
     (tested_some byte test fault byte_some)
 
 pub spelling_some : HasBytes spelling
-spelling_some = followed_some (tag_of (λ x. x == VERSION) (λ term x. NotVersion term)) (λ x. outermost) (tested_some byte (λ x. x == VERSION) (λ term x. NotVersion term) byte_some)
+spelling_some =
+    followed_some (tag_of (λ x. x == VERSION) (λ term x. NotVersion term)) (λ x. outermost)
+    (tested_some byte (λ x. x == VERSION) (λ term x. NotVersion term) byte_some)
 
 -- ---- numbers and bytes, whatever is known of the faults of tests
 
@@ -129,7 +136,8 @@ module _ (P : (A : Type 0) → Format A → Type 0) (kept : IsKept P) where
   magnitude_after-kept : (most weight m size : ℕ) → P ℕ (magnitude_after most weight m size)
   magnitude_after-kept most weight m zero = kept.of_give m
   magnitude_after-kept most weight m (suc size) =
-      kept.of_followed (tested byte (λ x. nat_le (m + weight * x) most) (λ term x. IntegerRange term)) (λ x. magnitude_after most (256 * weight) (m + weight * x) size)
+      kept.of_followed (tested byte (λ x. nat_le (m + weight * x) most) (λ term x. IntegerRange term))
+      (λ x. magnitude_after most (256 * weight) (m + weight * x) size)
       (tested_byte-kept P kept (λ x. nat_le (m + weight * x) most) (λ term x. IntegerRange term) range_tells)
       (λ x front w. magnitude_after-kept most (256 * weight) (m + weight * x) size)
 
@@ -167,7 +175,8 @@ module _ (P : (A : Type 0) → Format A → Type 0) (kept : IsKept P) where
 
   -- ---- terms with parts
 
-  module _ (part tail : Format TermValue) (some : HasBytes part) (levels : ℕ) (p : may_have_parts levels ≡ true → P TermValue part) (t : may_have_parts levels ≡ true → P TermValue tail) where
+  module _ (part tail : Format TermValue) (some : HasBytes part) (levels : ℕ) (p : may_have_parts levels ≡ true → P TermValue part)
+      (t : may_have_parts levels ≡ true → P TermValue tail) where
     -- where parts are counted the property holds of one
     counted : (size n : ℕ) (bytes : List ℕ) → (count levels size).Whole n bytes → n ≢ 0 → P TermValue part
     counted size n bytes w other = p (some_counted levels size n bytes w other)
@@ -186,7 +195,8 @@ module _ (P : (A : Type 0) → Format A → Type 0) (kept : IsKept P) where
     list_of-kept : P TermValue (list_of part tail levels)
     list_of-kept =
         kept.of_followed (count levels 4) _ (count-kept levels 4)
-        (λ n front w. kept.of_followed (times n part) (λ ts. changed (either (n == 0) no_tail tail) (λ end. chain ts end)) (times-kept P kept n part (counted 4 n front w))
+        (λ n front w. kept.of_followed (times n part) (λ ts. changed (either (n == 0) no_tail tail) (λ end. chain ts end))
+        (times-kept P kept n part (counted 4 n front w))
         (λ ts parts v. changed-kept P kept (either (n == 0) no_tail tail) (λ end. chain ts end)
         (either-kept P kept (n == 0) no_tail tail no_tail-kept (λ e. t (some_counted levels 4 n front w (eqb-false n 0 e))))))
 
@@ -224,11 +234,14 @@ module _ (P : (A : Type 0) → Format A → Type 0) (kept : IsKept P) where
         (λ _. either-kept P kept (tag == BIT_BINARY) _ _ bit_binary-kept
         (λ _. either-kept P kept (tag == MAP) _ _ map_format-kept (λ _. kept.of_give nil)))))))))))))))
 
-  term_with-kept : (test : ℕ → Bool) (fault : ℕ → ℕ → EtfFault) → TellsOffset fault → (levels : ℕ) → may_have_parts levels ≡ true → P TermValue (term_with test fault levels)
+  term_with-kept : (test : ℕ → Bool) (fault : ℕ → ℕ → EtfFault) → TellsOffset fault → (levels : ℕ) → may_have_parts levels ≡ true
+      → P TermValue (term_with test fault levels)
   term_with-kept test fault tells zero e = cc
   term_with-kept test fault tells (suc levels) e =
-      kept.of_framed (followed (tag_of test fault) (body (term_with is_known (λ term x. Unsupported term x) levels) (term_with begins_tail (λ term x. Unsupported term x) levels) levels))
-      (kept.of_followed (tag_of test fault) (body (term_with is_known (λ term x. Unsupported term x) levels) (term_with begins_tail (λ term x. Unsupported term x) levels) levels)
+      kept.of_framed (followed (tag_of test fault)
+      (body (term_with is_known (λ term x. Unsupported term x) levels) (term_with begins_tail (λ term x. Unsupported term x) levels) levels))
+      (kept.of_followed (tag_of test fault)
+      (body (term_with is_known (λ term x. Unsupported term x) levels) (term_with begins_tail (λ term x. Unsupported term x) levels) levels)
       (tested_byte-kept P kept test fault tells)
       (λ tag front w. body-kept (term_with is_known (λ term x. Unsupported term x) levels) (term_with begins_tail (λ term x. Unsupported term x) levels)
       (term_some is_known (λ term x. Unsupported term x) levels) levels

@@ -41,7 +41,8 @@ module _ (stray : EtfFault) (is_stray : IsStray stray) where
   }
 
 -- reading never answers it
-pub never_read : (stray : EtfFault) {A : Type 0} (F : Format A) → stray ≢ Short → IsExact F → Lacks stray F → (term : ℕ) (position : Position) → F.read term position ≡ Err stray → ⊥
+pub never_read : (stray : EtfFault) {A : Type 0} (F : Format A) → stray ≢ Short → IsExact F → Lacks stray F → (term : ℕ) (position : Position)
+    → F.read term position ≡ Err stray → ⊥
 never_read stray F other f n term position e =
     let b = f.read_break term position stray e other in
     n.no_break term position.offset b.front b.holds

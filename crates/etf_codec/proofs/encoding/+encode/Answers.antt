@@ -7,8 +7,10 @@ use Rattle.dets_term.specs.Parts.{deepest_bounds}
 use Rattle.etf_model.specs.Canonical.{canonical}
 use Rattle.etf_model.specs.CanonicalWholes.{canonical-tuple, canonical-map}
 use Rattle.etf_codec.proofs.CanonicalParts.{written-more, written-all, element_within}
-use Rattle.etf_codec.proofs.CanonicalLists.{canonical-string, canonical-list, canonical-improper, tuple-fits, list-fits, improper-fits, map-fits, bits-fit, tuple-falls, list-falls, map-falls, improper-falls, pair-falls}
-use Rattle.etf_codec.proofs.encoding.+encode.Goals.{encode_each-in-Some+in_ok-encode_term, encode_each-in_default, encode_pairs-in-Some+in_ok-encode_term+in_ok-encode_term-2, encode_pairs-in_default}
+use Rattle.etf_codec.proofs.CanonicalLists.{canonical-string, canonical-list, canonical-improper, tuple-fits, list-fits, improper-fits, map-fits, bits-fit}
+use Rattle.etf_codec.proofs.CanonicalLists.{tuple-falls, list-falls, map-falls, improper-falls, pair-falls}
+use Rattle.etf_codec.proofs.encoding.+encode.Goals.{encode_each-in-Some+in_ok-encode_term, encode_each-in_default}
+use Rattle.etf_codec.proofs.encoding.+encode.Goals.{encode_pairs-in-Some+in_ok-encode_term+in_ok-encode_term-2, encode_pairs-in_default}
 use Rattle.etf_codec.proofs.encoding.+encode.Goals as goal
 
 pub encode_each-encode_term-requires : goal.encode_each-encode_term-requires
@@ -53,7 +55,8 @@ pub encode_pairs-loop-index-preserved : goal.encode_pairs-loop-index-preserved
 encode_pairs-loop-index-preserved t c =
     elim c.match-get.branch [
       | encode_pairs-in-Some+in_ok-encode_term+in_ok-encode_term-2 w ↦
-          written-more (flat_map (λ p. canonical p.0 ++ canonical p.1)) (λ p. canonical p.0 ++ canonical p.1) (λ p ps. refl) c.loop-index.out _ _ c.args.pairs.now
+          written-more (flat_map (λ p. canonical p.0 ++ canonical p.1)) (λ p. canonical p.0 ++ canonical p.1)
+          (λ p ps. refl) c.loop-index.out _ _ c.args.pairs.now
           c.loop-index.index w.in-Some.pair.now (sym c.get.ensures ∙ ap option_copied w.in-Some.is) c.loop-index.invariant
           (w.out-is ∙ w.in_ok-encode_term-2.ensures ∙ ap (λ bytes. bytes ++ canonical w.in-Some.pair.now.1) w.in_ok-encode_term.ensures
           ∙ append_assoc c.loop-index.out (canonical w.in-Some.pair.now.0) (canonical w.in-Some.pair.now.1))
@@ -63,7 +66,8 @@ encode_pairs-loop-index-preserved t c =
 
 pub encode_pairs-returns : goal.encode_pairs-returns
 encode_pairs-returns t c =
-    written-all (flat_map (λ p. canonical p.0 ++ canonical p.1)) refl c.loop-index.out _ c.args.pairs.now c.loop-index.index (omega arith) c.loop-index.invariant
+    written-all (flat_map (λ p. canonical p.0 ++ canonical p.1)) refl c.loop-index.out _ c.args.pairs.now c.loop-index.index
+    (omega arith) c.loop-index.invariant
 
 pub encode_term-encode_arity-requires : goal.encode_term-encode_arity-requires
 encode_term-encode_arity-requires t c =
@@ -90,39 +94,49 @@ encode_term-encode_list-requires t c =
 pub encode_term-encode_head-requires-in-Improper : goal.encode_term-encode_head-requires-in-Improper
 encode_term-encode_head-requires-in-Improper t c =
     let sound = subst IsSound c.in-Improper.is c.node.ensures.sound in
-    omega (arith, improper-fits c.args.term.now c.in-Improper.parts c.in-Improper.tail.value sound.1 (sym c.node.ensures.value ∙ ap shown c.in-Improper.is) c.depth-levels.ensures.term)
+    omega (
+      arith,
+      improper-fits c.args.term.now c.in-Improper.parts c.in-Improper.tail.value sound.1
+          (sym c.node.ensures.value ∙ ap shown c.in-Improper.is) c.depth-levels.ensures.term,
+    )
 
 pub encode_term-encode_each-requires-in-Improper : goal.encode_term-encode_each-requires-in-Improper
 encode_term-encode_each-requires-in-Improper t c =
     let sound = subst IsSound c.in-Improper.is c.node.ensures.sound in
-    let falls = improper-falls c.args.term.now c.in-Improper.parts c.in-Improper.tail.value sound.0 sound.1 (sym c.node.ensures.value ∙ ap shown c.in-Improper.is) in
+    let falls =
+    improper-falls c.args.term.now c.in-Improper.parts c.in-Improper.tail.value sound.0 sound.1 (sym c.node.ensures.value ∙ ap shown c.in-Improper.is) in
     (omega arith, tt)
 
 pub encode_term-encode_term-requires : goal.encode_term-encode_term-requires
 encode_term-encode_term-requires t c =
     let sound = subst IsSound c.in-Improper.is c.node.ensures.sound in
-    let falls = improper-falls c.args.term.now c.in-Improper.parts c.in-Improper.tail.value sound.0 sound.1 (sym c.node.ensures.value ∙ ap shown c.in-Improper.is) in
+    let falls =
+    improper-falls c.args.term.now c.in-Improper.parts c.in-Improper.tail.value sound.0 sound.1 (sym c.node.ensures.value ∙ ap shown c.in-Improper.is) in
     let same : depth c.deref.result.now ≡ depth c.in-Improper.tail.value = ap depth c.deref.ensures in
     (omega arith, tt)
 
 pub encode_term-encode_bits-requires-clause-short : goal.encode_term-encode_bits-requires-clause-short
 encode_term-encode_bits-requires-clause-short t c =
     let sound = subst IsSound c.in-Bits.is c.node.ensures.sound in
-    rw c.as_slice.ensures (bits-fit c.args.term.now c.in-Bits.bytes c.in-Bits.used sound.used (sym c.node.ensures.value ∙ ap shown c.in-Bits.is) c.depth-levels.ensures.term)
+    rw c.as_slice.ensures (bits-fit c.args.term.now c.in-Bits.bytes c.in-Bits.used sound.used
+    (sym c.node.ensures.value ∙ ap shown c.in-Bits.is) c.depth-levels.ensures.term)
 
 pub encode_term-returns-in_ok-encode_arity-in-Tuple : goal.encode_term-returns-in_ok-encode_arity-in-Tuple
 encode_term-returns-in_ok-encode_arity-in-Tuple t c =
     let value = ap canonical (sym (ap shown c.in-Tuple.is) ∙ c.node.ensures.value) in
-    rw (sym value ∙ canonical-tuple c.in-Tuple.parts) (simp append_assoc at (rw (c.in_ok-encode_arity-in-Tuple.ensures, c.len.ensures) at c.encode_each.ensures))
+    rw (sym value ∙ canonical-tuple c.in-Tuple.parts)
+    (simp append_assoc at (rw (c.in_ok-encode_arity-in-Tuple.ensures, c.len.ensures) at c.encode_each.ensures))
 
 pub encode_term-returns-in_ok-encode_head-in-Map : goal.encode_term-returns-in_ok-encode_head-in-Map
 encode_term-returns-in_ok-encode_head-in-Map t c =
     let value = ap canonical (sym (ap shown c.in-Map.is) ∙ c.node.ensures.value) in
-    rw (sym value ∙ canonical-map c.in-Map.pairs) (simp append_assoc at (rw (c.in_ok-encode_head-in-Map.ensures, c.len-in-Map.ensures) at c.encode_pairs.ensures))
+    rw (sym value ∙ canonical-map c.in-Map.pairs)
+    (simp append_assoc at (rw (c.in_ok-encode_head-in-Map.ensures, c.len-in-Map.ensures) at c.encode_pairs.ensures))
 
 pub encode_term-returns-in_ok-encode_each-in-Improper : goal.encode_term-returns-in_ok-encode_each-in-Improper
 encode_term-returns-in_ok-encode_each-in-Improper t c =
     let sound = subst IsSound c.in-Improper.is c.node.ensures.sound in
     let value = ap canonical (sym (ap shown c.in-Improper.is) ∙ c.node.ensures.value) in
     rw (sym value ∙ canonical-improper c.in-Improper.parts c.in-Improper.tail.value sound.0 sound.1)
-    (simp append_assoc at (rw (c.deref.ensures, c.in_ok-encode_each-in-Improper.ensures, c.in_ok-encode_head-in-Improper.ensures, c.len-in-Improper.ensures) at c.encode_term.ensures))
+    (simp append_assoc at (rw (c.deref.ensures, c.in_ok-encode_each-in-Improper.ensures, c.in_ok-encode_head-in-Improper.ensures, c.len-in-Improper.ensures) at
+    c.encode_term.ensures))

@@ -14,14 +14,16 @@ only_memory-requires c =
 pub returns-then-ahead-eq0-clause-joins : goal.returns-then-ahead-eq0-clause-joins
 returns-then-ahead-eq0-clause-joins c begun position =
     let fits = fit_last c.args.parts c.push.new.self c.args.part c.args.ahead 255 c.in_ok-push.ensures.ok c.requires.frame c.requires.part in
-    let made = one_made c.tuple.result c.in_ok-tuple.tuple _ c.in_ok-tuple.ensures.ok (c.tuple.ensures ∙ built_tuple c.push.new.self 255 (omega arith) (omega (arith, fits.1)) fits.0) in
+    let made = one_made c.tuple.result c.in_ok-tuple.tuple _ c.in_ok-tuple.ensures.ok
+    (c.tuple.ensures ∙ built_tuple c.push.new.self 255 (omega arith) (omega (arith, fits.1)) fits.0) in
     element_ends c.args.ahead c.args.start c.args.at c.args.parts c.push.new.self c.args.part c.if-ahead-eq0.true c.in_ok-push.ensures.ok begun position
     ∙ ap (λ whole. resume begun c.args.start whole position) (sym made)
 
 pub returns-then-ahead-eq0-clause-within : goal.returns-then-ahead-eq0-clause-within
 returns-then-ahead-eq0-clause-within c levels l fits part =
     let last = fit_last c.args.parts c.push.new.self c.args.part c.args.ahead levels c.in_ok-push.ensures.ok fits part in
-    let made = one_made c.tuple.result c.in_ok-tuple.tuple _ c.in_ok-tuple.ensures.ok (c.tuple.ensures ∙ built_tuple c.push.new.self levels (omega arith) (omega (arith, last.1)) last.0) in
+    let made = one_made c.tuple.result c.in_ok-tuple.tuple _ c.in_ok-tuple.ensures.ok
+    (c.tuple.ensures ∙ built_tuple c.push.new.self levels (omega arith) (omega (arith, last.1)) last.0) in
     let shallow : depth c.in_ok-tuple.tuple ≤ levels + 1 = omega (arith, ap depth made, depth-tuple_of c.push.new.self levels last.0) in
     (shallow, λ outer may. part_fits outer (levels + 1) c.in_ok-tuple.tuple shallow (ap elements made))
 

@@ -9,7 +9,10 @@ use Rattle.etf_codec.proofs.numbers.integer_32.Goals as goal
 
 pub returns-in_err-value-clause-reads : goal.returns-in_err-value-clause-reads
 returns-in_err-value-clause-reads c term =
-    reads_fault (changed (number 4) (λ n. integer (signed_32 n))) term c.args.cursor.now c.number.new.self c.from_residual.result _ c.from_residual.ensures.1 (go_on_err _ _ _ (c.in_err-value.ensures term))
+    reads_fault (changed (number 4) (λ n. integer (signed_32 n))) term c.args.cursor.now c.number.new.self c.from_residual.result _ c.from_residual.ensures.1
+    (go_on_err _ _ _ (c.in_err-value.ensures term))
 
 pub returns-clause-reads : goal.returns-clause-reads
-returns-clause-reads c term = rw (int_value c.int.result _ _ (record { sfits = c.from_signed_32.type_inv }) c.int.ensures c.from_signed_32.ensures) (go_on_ok _ _ _ _ (c.in_ok-value.ensures term))
+returns-clause-reads c term =
+    rw (int_value c.int.result _ _ (record { sfits = c.from_signed_32.type_inv }) c.int.ensures c.from_signed_32.ensures)
+    (go_on_ok _ _ _ _ (c.in_ok-value.ensures term))

@@ -17,4 +17,5 @@ decreases-skip_parts l = 4 * l.levels + 1
 
 -- the terms that are left stand at the position so far
 abbrev pub invariant-skip_parts-loop : goal.invariant-skip_parts-loop
-invariant-skip_parts-loop l = (term : ℕ) → (parts (skipped_at l.levels) l.count).read term l.fn.cursor ≡ (parts (skipped_at l.levels) (l.count - l.counter)).read term l.cursor
+invariant-skip_parts-loop l =
+    (term : ℕ) → (parts (skipped_at l.levels) l.count).read term l.fn.cursor ≡ (parts (skipped_at l.levels) (l.count - l.counter)).read term l.cursor

@@ -1,7 +1,8 @@
 use Rattle.std.proofs.Common.{◌≡◌, ℕ, List, Result, Ok, Err, refl, ap, sym, ◌∙◌, subst, arith}
 use Rattle.std.specs.Result.{IsErrAnd, IfErr}
 use Rattle.etf_model.specs.declared.fault.EtfFault.{EtfFault}
-use Rattle.etf_model.specs.declared.fault.EtfFault.TheVariants.{Short, NotVersion, Unsupported, Compressed, IntegerRange, BadAtom, BadBits, RepeatedKey, Depth, LongTerm, Memory}
+use Rattle.etf_model.specs.declared.fault.EtfFault.TheVariants.{Short, NotVersion, Unsupported, Compressed, IntegerRange, BadAtom, BadBits, RepeatedKey, Depth}
+use Rattle.etf_model.specs.declared.fault.EtfFault.TheVariants.{LongTerm, Memory}
 use Rattle.etf_model.specs.Format.{Position}
 use Rattle.etf_model.specs.Answers.{IsFront}
 use Rattle.etf_model.specs.Skipping.{skipped, SkipsBy, IsSkipFault}

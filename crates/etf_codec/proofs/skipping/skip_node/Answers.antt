@@ -36,7 +36,8 @@ returns-in_err-tag c term =
 
 pub returns-in-100 : goal.returns-in-100
 returns-in-100 c term =
-    node_at 100 term c.args.cursor.now c.byte.new.self c.skip_sized.new.cursor c.in_ok-tag.tag c.skip_sized.result (c.in_ok-tag.ensures.reads term) c.in-100.is refl (c.skip_sized.ensures c.args.cursor.now.offset)
+    node_at 100 term c.args.cursor.now c.byte.new.self c.skip_sized.new.cursor c.in_ok-tag.tag c.skip_sized.result
+    (c.in_ok-tag.ensures.reads term) c.in-100.is refl (c.skip_sized.ensures c.args.cursor.now.offset)
 
 pub returns-in_default : goal.returns-in_default
 returns-in_default c term =
@@ -44,17 +45,21 @@ returns-in_default c term =
     let no_118 : c.in_ok-tag.tag ≢ ATOM_UTF8 = omega arith in
     let no_115 : c.in_ok-tag.tag ≢ SMALL_ATOM = omega arith in
     let no_119 : c.in_ok-tag.tag ≢ SMALL_ATOM_UTF8 = omega arith in
-    tag_refused begins_node refuse name c.args.cursor.now.offset c.args.cursor.now c.byte.new.self c.in_ok-tag.tag (c.in_ok-tag.ensures.reads term) (no_node c.in_ok-tag.tag no_100 no_115 no_118 no_119)
+    tag_refused begins_node refuse name c.args.cursor.now.offset c.args.cursor.now c.byte.new.self c.in_ok-tag.tag (c.in_ok-tag.ensures.reads term)
+    (no_node c.in_ok-tag.tag no_100 no_115 no_118 no_119)
     ∙ ap (λ at. Err (Unsupported at c.in_ok-tag.tag)) (sym c.offset-at.ensures)
 
 pub returns-in-118 : goal.returns-in-118
 returns-in-118 c term =
-    node_at 118 term c.args.cursor.now c.byte.new.self c.skip_sized-in-118.new.cursor c.in_ok-tag.tag c.skip_sized-in-118.result (c.in_ok-tag.ensures.reads term) c.in-118.is refl (c.skip_sized-in-118.ensures c.args.cursor.now.offset)
+    node_at 118 term c.args.cursor.now c.byte.new.self c.skip_sized-in-118.new.cursor c.in_ok-tag.tag c.skip_sized-in-118.result
+    (c.in_ok-tag.ensures.reads term) c.in-118.is refl (c.skip_sized-in-118.ensures c.args.cursor.now.offset)
 
 pub returns-in-115 : goal.returns-in-115
 returns-in-115 c term =
-    node_at 115 term c.args.cursor.now c.byte.new.self c.skip_sized-in-115.new.cursor c.in_ok-tag.tag c.skip_sized-in-115.result (c.in_ok-tag.ensures.reads term) c.in-115.is refl (c.skip_sized-in-115.ensures c.args.cursor.now.offset)
+    node_at 115 term c.args.cursor.now c.byte.new.self c.skip_sized-in-115.new.cursor c.in_ok-tag.tag c.skip_sized-in-115.result
+    (c.in_ok-tag.ensures.reads term) c.in-115.is refl (c.skip_sized-in-115.ensures c.args.cursor.now.offset)
 
 pub returns-in-119 : goal.returns-in-119
 returns-in-119 c term =
-    node_at 119 term c.args.cursor.now c.byte.new.self c.skip_sized-in-119.new.cursor c.in_ok-tag.tag c.skip_sized-in-119.result (c.in_ok-tag.ensures.reads term) c.in-119.is refl (c.skip_sized-in-119.ensures c.args.cursor.now.offset)
+    node_at 119 term c.args.cursor.now c.byte.new.self c.skip_sized-in-119.new.cursor c.in_ok-tag.tag c.skip_sized-in-119.result
+    (c.in_ok-tag.ensures.reads term) c.in-119.is refl (c.skip_sized-in-119.ensures c.args.cursor.now.offset)

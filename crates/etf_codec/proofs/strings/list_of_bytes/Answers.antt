@@ -7,7 +7,8 @@ use Rattle.etf_codec.proofs.strings.list_of_bytes.Goals as goal
 pub only_memory-requires : goal.only_memory-requires
 only_memory-requires c =
     let all : take c.loop-byte.byte-index c.args.bytes.now ≡ c.args.bytes.now = take_all c.loop-byte.byte-index c.args.bytes.now (omega arith) in
-    IfErr-ok c.list.result _ _ (c.list.ensures ∙ built_integers c.loop-byte.parts c.args.bytes.now (c.loop-byte.invariant ∙ ap (map (λ x. integer (pos x))) all) (omega arith))
+    IfErr-ok c.list.result _ _ (c.list.ensures
+    ∙ built_integers c.loop-byte.parts c.args.bytes.now (c.loop-byte.invariant ∙ ap (map (λ x. integer (pos x))) all) (omega arith))
 
 pub returns-clause-ok : goal.returns-clause-ok
 returns-clause-ok c =

@@ -11,8 +11,10 @@ pub returns-in_err-tag-clause-reads : goal.returns-in_err-tag-clause-reads
 returns-in_err-tag-clause-reads c =
     next_fault c.args.begun.now.items c.args.cursor.now c.from_residual.result _ c.from_residual.ensures.1 (
       refl,
-      inr (no_tag_here c.args.begun.now.items c.len.result c.args.cursor.now (omega (arith, c.len.ensures, c.args.begun.now.ok)) c.requires c.next_role-role.result c.read_tag.new.cursor _ c.next_role-role.ensures
-          (subst (λ p. TagReads c.next_role-role.result p c.read_tag.new.cursor (Err c.in_err-tag.field-0.0)) c.copied-behind.ensures c.in_err-tag.ensures.reads)),
+      inr (no_tag_here c.args.begun.now.items c.len.result c.args.cursor.now
+          (omega (arith, c.len.ensures, c.args.begun.now.ok)) c.requires c.next_role-role.result c.read_tag.new.cursor _ c.next_role-role.ensures
+          (subst (λ p. TagReads c.next_role-role.result p c.read_tag.new.cursor (Err c.in_err-tag.field-0.0)) c.copied-behind.ensures
+          c.in_err-tag.ensures.reads)),
     )
 
 pub returns-in_err-head-clause-reads : goal.returns-in_err-head-clause-reads
@@ -22,7 +24,8 @@ returns-in_err-head-clause-reads c =
     c.next_role-role.result c.next_role-role.ensures c.read_tag.new.cursor c.in_ok-tag.tag
     (subst (λ p. TagReads c.next_role-role.result p c.read_tag.new.cursor (Ok c.in_ok-tag.tag)) c.copied-behind.ensures c.in_ok-tag.ensures.reads)
     c.read_head.new.cursor _
-    (subst (λ o. HeadReads (body_of (255 - c.len.result) c.in_ok-tag.tag) (255 - c.len.result) o c.read_tag.new.cursor c.read_head.new.cursor (Err c.in_err-head.field-0.0)) c.offset-start.ensures c.in_err-head.ensures.reads))
+    (subst (λ o. HeadReads (body_of (255 - c.len.result) c.in_ok-tag.tag) (255 - c.len.result) o c.read_tag.new.cursor c.read_head.new.cursor
+    (Err c.in_err-head.field-0.0)) c.offset-start.ensures c.in_err-head.ensures.reads))
 
 pub returns-clause-reads : goal.returns-clause-reads
 returns-clause-reads c =
@@ -30,7 +33,8 @@ returns-clause-reads c =
     c.next_role-role.result c.next_role-role.ensures c.read_tag.new.cursor c.in_ok-tag.tag
     (subst (λ p. TagReads c.next_role-role.result p c.read_tag.new.cursor (Ok c.in_ok-tag.tag)) c.copied-behind.ensures c.in_ok-tag.ensures.reads)
     c.read_head.new.cursor c.in_ok-head.head c.in_ok-tag.ensures.tail
-    (subst (λ o. HeadReads (body_of (255 - c.len.result) c.in_ok-tag.tag) (255 - c.len.result) o c.read_tag.new.cursor c.read_head.new.cursor (Ok c.in_ok-head.head)) c.offset-start.ensures c.in_ok-head.ensures.reads)
+    (subst (λ o. HeadReads (body_of (255 - c.len.result) c.in_ok-tag.tag) (255 - c.len.result) o c.read_tag.new.cursor c.read_head.new.cursor
+    (Ok c.in_ok-head.head)) c.offset-start.ensures c.in_ok-head.ensures.reads)
     c.in_ok-head.ensures.fits
 
 pub returns-clause-forward : goal.returns-clause-forward
@@ -39,5 +43,6 @@ returns-clause-forward c =
     c.next_role-role.result c.next_role-role.ensures c.read_tag.new.cursor c.in_ok-tag.tag
     (subst (λ p. TagReads c.next_role-role.result p c.read_tag.new.cursor (Ok c.in_ok-tag.tag)) c.copied-behind.ensures c.in_ok-tag.ensures.reads)
     c.read_head.new.cursor c.in_ok-head.head
-    (subst (λ o. HeadReads (body_of (255 - c.len.result) c.in_ok-tag.tag) (255 - c.len.result) o c.read_tag.new.cursor c.read_head.new.cursor (Ok c.in_ok-head.head)) c.offset-start.ensures c.in_ok-head.ensures.reads) in
+    (subst (λ o. HeadReads (body_of (255 - c.len.result) c.in_ok-tag.tag) (255 - c.len.result) o c.read_tag.new.cursor c.read_head.new.cursor
+    (Ok c.in_ok-head.head)) c.offset-start.ensures c.in_ok-head.ensures.reads) in
     omega (arith, behind, c.in_ok-tag.ensures.forward, ap (λ (p : Position). length p.left) c.copied-behind.ensures)
