@@ -1,6 +1,7 @@
--- The definitions of this crate, one file for each idea.
-pub mod InputFeed
+-- ---- cited by public contracts
 pub mod Job
-pub mod Status
+pub mod InputFeed
 pub mod Run
+pub mod Status
+-- ---- a middle: how a run goes on from command to command
 pub mod Serving

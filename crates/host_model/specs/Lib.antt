@@ -1,7 +1,5 @@
--- The definitions of this crate, one file for each idea.
-
--- What the public contracts cite: what is read, what a host shows and what its calls do, runs of calls, and the states of
--- the sources and hosts of this crate.
+-- ---- cited by public contracts: what is read, what a host shows and what its calls do, runs of calls, and the states of
+-- the sources and hosts of this crate
 pub mod Counts
 pub mod Source
 pub mod Disk
@@ -18,11 +16,9 @@ pub mod StdSource
 pub mod FileHost
 pub mod Untold
 pub mod Restart
-
--- What only contracts inside the crate cite.
+-- ---- a middle: the calls as the code keeps them
 pub mod Log
-
--- Lemmas: on files, writes and runs, for the crates above too, and on the calls and the restarts of a host in memory.
+-- ---- lemmas: on files, writes and runs, for the crates above too, and on the calls and restarts of a host in memory
 pub mod Torn
 pub mod WritesLaws
 pub mod Leaves

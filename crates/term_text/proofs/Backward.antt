@@ -6,7 +6,7 @@ use Rattle.dets_term.specs.TermValue.{integer, atom, TermValue}
 use Rattle.term_text.specs.declared.nest.Bracket.{Bracket}
 use Rattle.term_text.specs.Printed.{is_plain_atom}
 use Rattle.term_text.specs.Token.{Token, opening, closing, comma, full_stop, name, number, is_white, each, Spelled, IsApart, Spells, IsSentence}
-use Rattle.term_text.specs.Machine.{NestState, may_begin, complete, take_token, Unfinished, no_token, in_name, in_minus, in_number, ReaderState, fresh_state, goes_on, extended, settled, first_byte, single, begun_token, begun, step, run, NestPlace, want, opened, after, whole, stopped, Frame, close, bracketed, same_bracket, may_close, after_comma, after_stop}
+use Rattle.term_text.specs.Machine.{NestState, may_begin, complete, take_token, Unfinished, no_token, in_name, in_minus, in_number, ReaderState, fresh_state, goes_on, extended, settled, first_byte, single, begun_token, begun, next_state, run, NestPlace, want, opened, after, whole, stopped, Frame, close, bracketed, same_bracket, may_close, after_comma, after_stop}
 use Rattle.term_text.specs.Valid.{ValidNest, ValidToken, IsValid, ValidPlace}
 use Rattle.term_text.proofs.Forward.{IsWithin}
 use Rattle.term_text.proofs.HasRead.{TokenBytes, read_tokens, HasRead}
@@ -20,7 +20,7 @@ by_option_map f None y e g = cc
 by_option_map f (Some x) y e g = g x refl (let h : f x ≡ y = cc in h)
 
 -- a byte goes on with a token, or that token is settled and the byte begins
-pub by_step : {P : Type 0} (s n : ReaderState) (x : ℕ) → step s x ≡ Some n
+pub by_step : {P : Type 0} (s n : ReaderState) (x : ℕ) → next_state s x ≡ Some n
     → ((u : Unfinished) → goes_on s.token x ≡ true → extended s.token x ≡ Some u → record { nest = s.nest; token = u } ≡ n → P)
     → ((m : NestState) → goes_on s.token x ≡ false → settled s.nest s.token ≡ Some m → begun m x ≡ Some n → P) → P
 by_step s n x e f g =
@@ -78,7 +78,7 @@ Good-begun m n x g e =
     (record { nest = g; token = (first_byte-begins m x u b f).0 }))
 
 -- each byte leaves a valid state valid
-pub valid_step : (s n : ReaderState) (x : ℕ) → IsValid s → step s x ≡ Some n → IsValid n
+pub valid_step : (s n : ReaderState) (x : ℕ) → IsValid s → next_state s x ≡ Some n → IsValid n
 valid_step s n x g e =
     by_step s n x e
     (λ u t q same. subst (λ (s : ReaderState). IsValid s) same
@@ -181,7 +181,7 @@ before-settled s m x bytes g r t q =
     settled-read s.nest m s.token r.blanks r.begun bytes x g.nest g.token t q r.blank r.token r.text
 
 -- each byte is read
-pub reads_step : (s n : ReaderState) (x : ℕ) (bytes : List ℕ) → IsValid s → HasRead s bytes → step s x ≡ Some n → HasRead n (bytes ++ x ∷ [])
+pub reads_step : (s n : ReaderState) (x : ℕ) (bytes : List ℕ) → IsValid s → HasRead s bytes → next_state s x ≡ Some n → HasRead n (bytes ++ x ∷ [])
 reads_step s n x bytes g r e =
     by_step s n x e
     (λ u t q same. subst (λ (s : ReaderState). HasRead s (bytes ++ x ∷ [])) same (record {
@@ -202,7 +202,7 @@ run_reads_on [] bytes s n g r e =
     let same : s ≡ n = cc in
     subst (λ (m : ReaderState). IsValid m × HasRead m (bytes ++ [])) same (g, rw append-nil r)
 run_reads_on (x ∷ rest) bytes s n g r e =
-    option_and_then_some _ (step s x) n e (λ m q more.
+    option_and_then_some _ (next_state s x) n e (λ m q more.
     let both = run_reads_on rest (bytes ++ x ∷ []) m n (valid_step s m x g q) (reads_step s m x bytes g r q) more in
     (both.0, subst (λ (l : List ℕ). HasRead n l) (append_assoc bytes (x ∷ []) rest) both.1))
 
@@ -306,7 +306,7 @@ begun-stops m n x bytes t g on h e p =
     (λ u b f same. absurd (on t (ap (λ (s : ReaderState). s.nest.place) same ∙ p)))
 
 -- a byte that stops a valid state is the full stop of a sentence, and nothing follows it
-pub stop_step : (s n : ReaderState) (x : ℕ) (bytes : List ℕ) (t : TermValue) → IsValid s → HasRead s bytes → IsGoingOn s.nest → step s x ≡ Some n
+pub stop_step : (s n : ReaderState) (x : ℕ) (bytes : List ℕ) (t : TermValue) → IsValid s → HasRead s bytes → IsGoingOn s.nest → next_state s x ≡ Some n
     → n.nest.place ≡ stopped t → IsRead t bytes x n
 stop_step s n x bytes t g r on e p =
     by_step s n x e
@@ -316,12 +316,12 @@ stop_step s n x bytes t g r on e p =
 
 -- what the machine stops behind is a sentence
 pub sound : (bytes : List ℕ) (x : ℕ) (s n : ReaderState) (t : TermValue) → run fresh_state bytes ≡ Some s → ((u : TermValue) → s.nest.place ≡ stopped u → ⊥)
-    → step s x ≡ Some n → n.nest.place ≡ stopped t → IsSentence t (bytes ++ x ∷ []) []
+    → next_state s x ≡ Some n → n.nest.place ≡ stopped t → IsSentence t (bytes ++ x ∷ []) []
 sound bytes x s n t e on q p =
     let both = run_reads bytes s e in (stop_step s n x bytes t both.0 both.1 on q p).sentence
 
 pub stop_state : (bytes : List ℕ) (x : ℕ) (s n : ReaderState) (t : TermValue) → run fresh_state bytes ≡ Some s
-    → ((u : TermValue) → s.nest.place ≡ stopped u → ⊥) → step s x ≡ Some n → n.nest.place ≡ stopped t
+    → ((u : TermValue) → s.nest.place ≡ stopped u → ⊥) → next_state s x ≡ Some n → n.nest.place ≡ stopped t
     → (n ≡ record { nest = record { frames = []; place = stopped t }; token = no_token }) × (x ≡ 46)
 stop_state bytes x s n t e on q p =
     let both = run_reads bytes s e in

@@ -5,7 +5,7 @@ use Rattle.std.specs.List.{AllByRecursion}
 use Rattle.dets_term.specs.TermValue.{TermValue, integer, atom, nil}
 use Rattle.term_text.specs.declared.nest.Bracket.{Bracket}
 use Rattle.term_text.specs.declared.nest.Bracket.TheVariants.{Tuple, List as Square}
-use Rattle.term_text.specs.Machine.{NestPlace, want, opened, after, whole, stopped, Frame, NestState, bracketed, complete, may_close, Unfinished, no_token, in_name, in_minus, in_number, goes_on, settled, ReaderState, fresh_state, step, run}
+use Rattle.term_text.specs.Machine.{NestPlace, want, opened, after, whole, stopped, Frame, NestState, bracketed, complete, may_close, Unfinished, no_token, in_name, in_minus, in_number, goes_on, settled, ReaderState, fresh_state, next_state, run}
 use Rattle.term_text.specs.Token.{with_digit, IsSentence}
 use Rattle.term_text.specs.Reading.{is_stopped}
 use Rattle.term_text.specs.Valid.{IsPart, ValidFrames, IsOutsideOrMore, ValidPlace, IsValid}
@@ -24,9 +24,9 @@ record CanStop (s : ReaderState) : Type 0 where
   before : ReaderState
   reached : run s init ≡ Some before
   going : IsGoingOn before.nest
-  stop : step before 46 ≡ Some (between (stopped_nest term))
+  stop : next_state before 46 ≡ Some (between (stopped_nest term))
 
-by_byte : (s n : ReaderState) (x : ℕ) → step s x ≡ Some n → CanStop n → CanStop s
+by_byte : (s n : ReaderState) (x : ℕ) → next_state s x ≡ Some n → CanStop n → CanStop s
 by_byte s n x e c = record {
   term = c.term;
   init = x ∷ c.init;
@@ -44,7 +44,7 @@ abbrev bracket_at : Bracket → List TermValue → List Frame → NestPlace → 
 bracket_at k ps fs place = record { frames = record { bracket = k; parts = ps } ∷ fs; place = place }
 
 step_closing : (k : Bracket) (ps : List TermValue) (fs : List Frame) (place : NestPlace) → may_close place ≡ true
-    → step (between (bracket_at k ps fs place)) (closing_byte k) ≡ Some (between (complete fs (bracketed k ps)))
+    → next_state (between (bracket_at k ps fs place)) (closing_byte k) ≡ Some (between (complete fs (bracketed k ps)))
 step_closing Tuple ps fs place m = rw m
 step_closing Square ps fs place m = rw m
 
@@ -72,7 +72,7 @@ room (f ∷ fs) g more = has_room f.parts g.1 more
     has_room [] all some = absurd (omega arith)
     has_room (t ∷ ts) all some = omega (arith, all.0.shallow)
 
-step_opening : (fs : List Frame) → length fs < 256 → step (between (record { frames = fs; place = want })) 91 ≡ Some (between (bracket_at Square [] fs opened))
+step_opening : (fs : List Frame) → length fs < 256 → next_state (between (record { frames = fs; place = want })) 91 ≡ Some (between (bracket_at Square [] fs opened))
 step_opening fs h = let l = lt-ltb (length fs) 256 h in rw l
 
 nest_stops : (fs : List Frame) (place : NestPlace) → ValidFrames fs → ValidPlace fs place → is_stopped place ≡ false
@@ -92,7 +92,7 @@ nest_stops [] (whole t) g p e = complete_stops [] t
 nest_stops (f ∷ fs) (whole t) g p e = let clash : f ∷ fs ≡ [] = p.0 in cc
 nest_stops fs (stopped t) g p e = cc
 
-step_settled : (s n : NestState) (u : Unfinished) (x : ℕ) → goes_on u x ≡ false → settled s u ≡ Some n → step (amid s u) x ≡ step (between n) x
+step_settled : (s n : NestState) (u : Unfinished) (x : ℕ) → goes_on u x ≡ false → settled s u ≡ Some n → next_state (amid s u) x ≡ next_state (between n) x
 step_settled s n u x e f = rw (e, f)
 
 -- a name or a number is ended by what comes behind it

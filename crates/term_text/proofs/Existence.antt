@@ -5,7 +5,7 @@ use Rattle.std.proofs.Math.Seq.{take-append_seam, drop-append_seam}
 use Rattle.dets_term.specs.TermValue.{TermValue}
 use Rattle.etf_model.specs.declared.fed.Fed.TheVariants.{Again}
 use Rattle.term_text.specs.Token.{IsSentence}
-use Rattle.term_text.specs.Machine.{ReaderState, fresh_state, step}
+use Rattle.term_text.specs.Machine.{ReaderState, fresh_state, next_state}
 use Rattle.term_text.specs.Reading.{is_stopped}
 use Rattle.term_text.specs.Reaches.{counted, IsInTime, Reaches, Fails, IsOrderly}
 use Rattle.term_text.specs.Next.{text_length, ends}
@@ -39,7 +39,7 @@ abbrev Course : ReaderState → ℕ → List ℕ → Type 0
 Course s c bytes = Stops s c bytes ⊎ (Goes s c bytes ⊎ Fails s c bytes)
 
 -- one byte in front
-course_behind : (s m : ReaderState) (c x : ℕ) (bytes : List ℕ) → is_stopped s.nest.place ≡ false → step s x ≡ Some m → IsInTime m (counted c x)
+course_behind : (s m : ReaderState) (c x : ℕ) (bytes : List ℕ) → is_stopped s.nest.place ≡ false → next_state s x ≡ Some m → IsInTime m (counted c x)
     → Course m (counted c x) bytes → Course s c (x ∷ bytes)
 course_behind s m c x bytes going e t (inl h) = inl (record {
   front = x ∷ h.front;
@@ -66,7 +66,7 @@ course_behind s m c x bytes going e t (inr (inr f)) = inr (inr (record {
 
 -- the first byte is refused
 fails_here : (s : ReaderState) (c x : ℕ) (bytes : List ℕ) → is_stopped s.nest.place ≡ false
-    → (step s x ≡ None) ⊎ ((m : ReaderState) × (step s x ≡ Some m) × (is_stopped m.nest.place ≡ false) × (2 ^ 24 ≤ counted c x)) → Course s c (x ∷ bytes)
+    → (next_state s x ≡ None) ⊎ ((m : ReaderState) × (next_state s x ≡ Some m) × (is_stopped m.nest.place ≡ false) × (2 ^ 24 ≤ counted c x)) → Course s c (x ∷ bytes)
 fails_here s c x bytes going f =
     inr (inr (record { front = []; byte = x; rest = bytes; whole = refl; state = s; total = c; reached = (refl, refl); moving = going; failed = f }))
 
@@ -74,22 +74,22 @@ course_on : (x : ℕ) (bytes : List ℕ) (s : ReaderState) (c : ℕ) → IsOrder
     → Course s c (x ∷ bytes)
 course_on x bytes s c o others = by_place (cases_Bool (is_stopped s.nest.place))
   where
-    on : (m : ReaderState) → is_stopped s.nest.place ≡ false → step s x ≡ Some m → IsInTime m (counted c x) → Course s c (x ∷ bytes)
+    on : (m : ReaderState) → is_stopped s.nest.place ≡ false → next_state s x ≡ Some m → IsInTime m (counted c x) → Course s c (x ∷ bytes)
     on m going e t = course_behind s m c x bytes going e t (others m (counted c x) (orderly_step s c x m o going e t))
 
-    in_time : (m : ReaderState) → is_stopped s.nest.place ≡ false → step s x ≡ Some m → (is_stopped m.nest.place ≡ true) ⊎ (is_stopped m.nest.place ≡ false)
+    in_time : (m : ReaderState) → is_stopped s.nest.place ≡ false → next_state s x ≡ Some m → (is_stopped m.nest.place ≡ true) ⊎ (is_stopped m.nest.place ≡ false)
         → (counted c x < 2 ^ 24) ⊎ (2 ^ 24 ≤ counted c x) → Course s c (x ∷ bytes)
     in_time m going e (inl stops) h = on m going e (inl stops)
     in_time m going e (inr goes) (inl less) = on m going e (inr less)
     in_time m going e (inr goes) (inr past) = fails_here s c x bytes going (inr (m, e, goes, past))
 
-    by_step : (q : Option ReaderState) → step s x ≡ q → is_stopped s.nest.place ≡ false → Course s c (x ∷ bytes)
+    by_step : (q : Option ReaderState) → next_state s x ≡ q → is_stopped s.nest.place ≡ false → Course s c (x ∷ bytes)
     by_step None e going = fails_here s c x bytes going (inl e)
     by_step (Some m) e going = in_time m going e (cases_Bool (is_stopped m.nest.place)) (cases_lt (counted c x) (2 ^ 24))
 
     by_place : (is_stopped s.nest.place ≡ true) ⊎ (is_stopped s.nest.place ≡ false) → Course s c (x ∷ bytes)
     by_place (inl e) = inl (record { front = []; rest = x ∷ bytes; whole = refl; state = s; total = c; reached = (refl, refl); stopped = e })
-    by_place (inr e) = by_step (step s x) refl e
+    by_place (inr e) = by_step (next_state s x) refl e
 
 course : (bytes : List ℕ) (s : ReaderState) (c : ℕ) → IsOrderly s c → Course s c bytes
 course [] s c o = by_place (cases_Bool (is_stopped s.nest.place))

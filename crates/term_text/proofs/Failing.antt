@@ -5,7 +5,7 @@ use Rattle.std.proofs.lemmas.List.{take-append-drop}
 use Rattle.dets_term.specs.TermValue.{TermValue}
 use Rattle.term_text.specs.declared.feed.TextFault.TheVariants.{NotYet}
 use Rattle.term_text.specs.Token.{is_white, each, IsSentence}
-use Rattle.term_text.specs.Machine.{ReaderState, fresh_state, step, run}
+use Rattle.term_text.specs.Machine.{ReaderState, fresh_state, next_state, run}
 use Rattle.term_text.specs.Reading.{is_stopped}
 use Rattle.term_text.specs.Reaches.{counted, Reaches, Fails}
 use Rattle.term_text.specs.Next.{text_length}
@@ -20,7 +20,7 @@ use Rattle.term_text.proofs.Completion.{front_of_text}
 
 -- the byte cannot stand in this state, or is one too many
 abbrev IsRefused : ReaderState → ℕ → ℕ → Type 0
-IsRefused m d x = (step m x ≡ None) ⊎ ((n : ReaderState) × (step m x ≡ Some n) × (is_stopped n.nest.place ≡ false) × (2 ^ 24 ≤ counted d x))
+IsRefused m d x = (next_state m x ≡ None) ⊎ ((n : ReaderState) × (next_state m x ≡ Some n) × (is_stopped n.nest.place ≡ false) × (2 ^ 24 ≤ counted d x))
 
 -- the text that a run comes to goes past the byte that is refused, and past the limit
 abbrev GoesPast : (text front : List ℕ) (x d : ℕ) → Type 0
@@ -113,7 +113,7 @@ white_reaches [] e = (refl, refl)
 white_reaches (x ∷ xs) e =
     let p = and_parts (is_white x) (each is_white xs) e in
     let none : counted 0 x ≡ 0 = ap (λ b. cond b 0 1) p.0 in
-    let same : step fresh_state x ≡ Some fresh_state = rw (p.0) in (
+    let same : next_state fresh_state x ≡ Some fresh_state = rw (p.0) in (
       refl,
       (
         fresh_state,

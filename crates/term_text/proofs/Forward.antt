@@ -9,8 +9,8 @@ use Rattle.std.specs.List.{list_all}
 use Rattle.dets_term.specs.TermValue.{integer, atom}
 use Rattle.term_text.specs.declared.nest.Bracket.TheVariants.{Tuple, List as Square}
 use Rattle.term_text.specs.Printed.{is_name_character, is_plain_atom}
-use Rattle.term_text.specs.Token.{Token, opening, closing, comma, full_stop, name, number, is_white, each, fits, with_digit, value_after, Decimal, Spelled, IsApart, Fronts, Spells}
-use Rattle.term_text.specs.Machine.{NestState, may_begin, complete, take_token, take_tokens, Unfinished, no_token, in_name, in_minus, in_number, ReaderState, goes_on, settled, first_byte, single, seated, step, run}
+use Rattle.term_text.specs.Token.{Token, opening, closing, comma, full_stop, name, number, is_white, each, fits, with_digit, value_after, Decimal, Spelled, IsApart, BeginsWithToken, Spells}
+use Rattle.term_text.specs.Machine.{NestState, may_begin, complete, take_token, take_tokens, Unfinished, no_token, in_name, in_minus, in_number, ReaderState, goes_on, settled, first_byte, single, seated, next_state, run}
 
 -- ---- the front of a number that fits, fits
 
@@ -53,21 +53,21 @@ between s = record { nest = s; token = no_token }
 abbrev pub amid : NestState → Unfinished → ReaderState
 amid s u = record { nest = s; token = u }
 
-pub run_step : (s n : ReaderState) (x : ℕ) (xs : List ℕ) → step s x ≡ Some n → run s (x ∷ xs) ≡ run n xs
+pub run_step : (s n : ReaderState) (x : ℕ) (xs : List ℕ) → next_state s x ≡ Some n → run s (x ∷ xs) ≡ run n xs
 run_step s n x xs e = ap (option_and_then (λ (m : ReaderState). run m xs)) e
 
 -- a byte that does not go on with a token settles it
 run_settled : (s n : NestState) (u : Unfinished) (x : ℕ) (xs : List ℕ) → goes_on u x ≡ false → settled s u ≡ Some n
     → run (amid s u) (x ∷ xs) ≡ run (between n) (x ∷ xs)
 run_settled s n u x xs e f =
-    let same : step (amid s u) x ≡ step (between n) x = rw (e, f) in
+    let same : next_state (amid s u) x ≡ next_state (between n) x = rw (e, f) in
     ap (option_and_then (λ (m : ReaderState). run m xs)) same
 
 pub run_blanks : (s : NestState) (blanks rest : List ℕ) → each is_white blanks ≡ true → run (between s) (blanks ++ rest) ≡ run (between s) rest
 run_blanks s [] rest e = refl
 run_blanks s (x ∷ blanks) rest e =
     let p = and_parts (is_white x) (each is_white blanks) e in
-    let same : step (between s) x ≡ Some (between s) = rw (p.0) in
+    let same : next_state (between s) x ≡ Some (between s) = rw (p.0) in
     run_step (between s) (between s) x (blanks ++ rest) same ∙ run_blanks s blanks rest p.1
 
 digit_is_not_white : (x : ℕ) → is_ascii_digit x ≡ true → is_white x ≡ false
@@ -89,18 +89,18 @@ letter_begins : (x : ℕ) → is_ascii_lowercase x ≡ true → first_byte x ≡
 letter_begins x e = grind (arith, nat_tests)
 
 step_begins : (s : NestState) (x : ℕ) (u : Unfinished) → may_begin s ≡ true → is_white x ≡ false → single x ≡ None → first_byte x ≡ Some u
-    → step (between s) x ≡ Some (amid s u)
+    → next_state (between s) x ≡ Some (amid s u)
 step_begins s x u m w e f = rw (w, e, m, f)
 
 step_digit : (s : NestState) (minus : Bool) (z : ℤ) (d : ℕ) → is_ascii_digit d ≡ true → fits (with_digit minus z d) ≡ true
-    → step (amid s (in_number minus z)) d ≡ Some (amid s (in_number minus (with_digit minus z d)))
+    → next_state (amid s (in_number minus z)) d ≡ Some (amid s (in_number minus (with_digit minus z d)))
 step_digit s minus z d e f = rw (e, f)
 
 step_name : (s : NestState) (cs : List ℕ) (x : ℕ) → is_name_character x ≡ true → length cs < 255
-    → step (amid s (in_name cs)) x ≡ Some (amid s (in_name (cs ++ x ∷ [])))
+    → next_state (amid s (in_name cs)) x ≡ Some (amid s (in_name (cs ++ x ∷ [])))
 step_name s cs x e h = let l = lt-ltb (length cs) 255 h in rw (e, l)
 
-pub step_minus : (s : NestState) (d : ℕ) → is_ascii_digit d ≡ true → step (amid s in_minus) d ≡ Some (amid s (in_number true (with_digit true (pos 0) d)))
+pub step_minus : (s : NestState) (d : ℕ) → is_ascii_digit d ≡ true → next_state (amid s in_minus) d ≡ Some (amid s (in_number true (with_digit true (pos 0) d)))
 step_minus s d e = rw e
 
 run_on_digits : (s : NestState) (minus : Bool) (z : ℤ) (n : ℕ) (ds rest : List ℕ) → z ≡ on_side minus n → each is_ascii_digit ds ≡ true
@@ -137,7 +137,7 @@ abbrev pub AreWithin : List Token → Type 0
 AreWithin [] = Unit {0}
 AreWithin (token ∷ tokens) = IsWithin token × AreWithin tokens
 
-run_single : (token : Token) (x : ℕ) (s n : NestState) (spelling rest : List ℕ) → spelling ≡ x ∷ [] → step (between s) x ≡ seated (take_token s token)
+run_single : (token : Token) (x : ℕ) (s n : NestState) (spelling rest : List ℕ) → spelling ≡ x ∷ [] → next_state (between s) x ≡ seated (take_token s token)
     → take_token s token ≡ Some n → run (between s) (spelling ++ rest) ≡ run (between n) rest
 run_single token x s n spelling rest e f t =
     ap (λ b. run (between s) (b ++ rest)) e ∙ run_step (between s) (between n) x rest (f ∙ ap seated t)
@@ -156,7 +156,7 @@ run_name (c ∷ cs) s n (x ∷ rest) h e a t =
 
 -- the digits of a number, from the first on, up to the byte behind them
 run_digits : (s n : NestState) (u : Unfinished) (minus : Bool) (z : ℤ) (d : ℕ) (ds rest : List ℕ)
-    → (step (amid s u) d ≡ Some (amid s (in_number minus (with_digit minus (pos 0) d)))) → fits z ≡ true → Decimal minus z (d ∷ ds) → IsApart (number z) rest
+    → (next_state (amid s u) d ≡ Some (amid s (in_number minus (with_digit minus (pos 0) d)))) → fits z ≡ true → Decimal minus z (d ∷ ds) → IsApart (number z) rest
     → complete s.frames (integer z) ≡ n → run (amid s u) ((d ∷ ds) ++ rest) ≡ run (between n) rest
 run_digits s n u minus z d ds [] b f e a m = absurd a
 run_digits s n u minus z d ds (x ∷ rest) b f e a m =
@@ -196,7 +196,7 @@ run_token (name cs) s n spelling rest w e a t =
     ap (λ b. run (between s) (b ++ rest)) e.0 ∙ run_name cs s n rest w (ap is_plain_atom (sym e.0) ∙ e.1) a t
 run_token (number z) s n spelling rest w e a t = run_number z s n spelling rest w e a t
 
-pub run_fronts : (token : Token) (s n : NestState) (bytes rest : List ℕ) → IsWithin token → Fronts token bytes rest → take_token s token ≡ Some n
+pub run_fronts : (token : Token) (s n : NestState) (bytes rest : List ℕ) → IsWithin token → BeginsWithToken token bytes rest → take_token s token ≡ Some n
     → run (between s) bytes ≡ run (between n) rest
 run_fronts token s n bytes rest w f t =
     ap (run (between s)) f.whole ∙ run_blanks s f.blanks (f.spelling ++ rest) f.blank

@@ -7,7 +7,7 @@ use Rattle.std.proofs.lemmas.Bool.{and_parts, eqb-true}
 use Rattle.dets_term.specs.TermValue.{TermValue, integer, atom}
 use Rattle.term_text.specs.declared.nest.Bracket.{Bracket}
 use Rattle.term_text.specs.Token.{Token, opening, closing, comma, full_stop, name, number}
-use Rattle.term_text.specs.Machine.{NestPlace, want, opened, after, whole, stopped, Frame, NestState, bracketed, complete, same_bracket, may_begin, may_close, close, after_comma, after_stop, take_token, Unfinished, no_token, in_name, in_minus, in_number, settled, single, begun_token, ReaderState, fresh_state, step}
+use Rattle.term_text.specs.Machine.{NestPlace, want, opened, after, whole, stopped, Frame, NestState, bracketed, complete, same_bracket, may_begin, may_close, close, after_comma, after_stop, take_token, Unfinished, no_token, in_name, in_minus, in_number, settled, single, begun_token, ReaderState, fresh_state, next_state}
 use Rattle.term_text.proofs.NestTokens.{if_some}
 use Rattle.term_text.proofs.Spelling.{single-spells}
 use Rattle.term_text.proofs.Backward.{by_step, by_begun, valid_step}
@@ -17,10 +17,10 @@ use Rattle.term_text.specs.Reaches.{counted, IsInTime, Reaches, Fails, IsOrderly
 
 -- one byte more
 pub Reaches-push : (s : ReaderState) (c : ℕ) (xs : List ℕ) (m : ReaderState) (d x : ℕ) (n : ReaderState) → Reaches s c xs m d → is_stopped m.nest.place ≡ false
-    → step m x ≡ Some n → IsInTime n (counted d x) → Reaches s c (xs ++ x ∷ []) n (counted d x)
+    → next_state m x ≡ Some n → IsInTime n (counted d x) → Reaches s c (xs ++ x ∷ []) n (counted d x)
 Reaches-push s c [] m d x n r moving e t = (
   subst (λ (q : ReaderState). is_stopped q.nest.place ≡ false) r.0 moving,
-  (n, subst (λ (q : ReaderState). step q x ≡ Some n) r.0 e, subst (λ (k : ℕ). IsInTime n (counted k x)) r.1 t, (refl, ap (λ (k : ℕ). counted k x) r.1)),
+  (n, subst (λ (q : ReaderState). next_state q x ≡ Some n) r.0 e, subst (λ (k : ℕ). IsInTime n (counted k x)) r.1 t, (refl, ap (λ (k : ℕ). counted k x) r.1)),
 )
 Reaches-push s c (y ∷ xs) m d x n r moving e t =
     (r.0, (r.1.0, r.1.1, r.1.2, Reaches-push r.1.0 (counted c y) xs m d x n r.1.3 moving e t))
@@ -33,7 +33,7 @@ at_byte bytes i h = sym (take-append-drop i bytes) ∙ ap (λ zs. take i bytes +
 -- what leads to a byte that cannot stand there fails
 pub Fails-at : (s : ReaderState) (c : ℕ) (bytes : List ℕ) (i : ℕ) (m : ReaderState) (d : ℕ) → i < length bytes → Reaches s c (take i bytes) m d
     → is_stopped m.nest.place ≡ false
-    → (step m (get_or bytes i 0) ≡ None) ⊎ ((n : ReaderState) × (step m (get_or bytes i 0) ≡ Some n) × (is_stopped n.nest.place ≡ false)
+    → (next_state m (get_or bytes i 0) ≡ None) ⊎ ((n : ReaderState) × (next_state m (get_or bytes i 0) ≡ Some n) × (is_stopped n.nest.place ≡ false)
     × (2 ^ 24 ≤ counted d (get_or bytes i 0))) → Fails s c bytes
 Fails-at s c bytes i m d h r moving f = record {
   front = take i bytes;
@@ -109,7 +109,7 @@ token-few c m k x full_stop s h e = subst (HasFew (c + 1)) (after_stop-same m.fr
 token-few c m k x (name characters) s h e = absurd ((single-spells x (name characters) [] s).1)
 token-few c m k x (number z) s h e = absurd ((single-spells x (number z) [] s).1)
 
-few_step : (c : ℕ) (s n : ReaderState) (x : ℕ) → HasFew c s.nest.frames → step s x ≡ Some n → HasFew (c + 1) n.nest.frames
+few_step : (c : ℕ) (s n : ReaderState) (x : ℕ) → HasFew c s.nest.frames → next_state s x ≡ Some n → HasFew (c + 1) n.nest.frames
 few_step c s n x h e =
     by_step s n x e
     (λ u t q same. subst (λ (s : ReaderState). HasFew (c + 1) s.nest.frames) same (few-more c s.nest.frames h))
@@ -120,9 +120,9 @@ few_step c s n x h e =
     (λ token k p d same. subst (λ (s : ReaderState). HasFew (c + 1) s.nest.frames) same (token-few c m k x token p one d))
     (λ u _ _ same. subst (λ (s : ReaderState). HasFew (c + 1) s.nest.frames) same (one-more c m.frames one)))
 
-white_first : (x : ℕ) (n : ReaderState) → is_white x ≡ true → step fresh_state x ≡ Some n → n ≡ fresh_state
+white_first : (x : ℕ) (n : ReaderState) → is_white x ≡ true → next_state fresh_state x ≡ Some n → n ≡ fresh_state
 white_first x n w e =
-    let same : step fresh_state x ≡ Some fresh_state = ap (λ b. cond b (Some fresh_state) (begun_token fresh_state.nest (single x) x)) w in
+    let same : next_state fresh_state x ≡ Some fresh_state = ap (λ b. cond b (Some fresh_state) (begun_token fresh_state.nest (single x) x)) w in
     cc
 
 -- a byte is counted, or it is white space in front of a term
@@ -133,7 +133,7 @@ by_count P c x f g = with_test ((c == 0) && is_white x) refl
     with_test true e = let both = and_parts (c == 0) (is_white x) e in f (eqb-true c 0 both.0) both.1
     with_test false e = g (ap (λ b. cond b 0 (c + 1)) (sym e))
 
-pub orderly_step : (s : ReaderState) (c x : ℕ) (n : ReaderState) → IsOrderly s c → is_stopped s.nest.place ≡ false → step s x ≡ Some n
+pub orderly_step : (s : ReaderState) (c x : ℕ) (n : ReaderState) → IsOrderly s c → is_stopped s.nest.place ≡ false → next_state s x ≡ Some n
     → IsInTime n (counted c x) → IsOrderly n (counted c x)
 orderly_step s c x n o moving e t = record {
   valid = valid_step s n x o.valid e;
@@ -150,4 +150,4 @@ orderly_step s c x n o moving e t = record {
     in_time going (inr less) = less
 
     at_first : c ≡ 0 → is_white x ≡ true → n ≡ fresh_state
-    at_first z w = white_first x n w (subst (λ (m : ReaderState). step m x ≡ Some n) (o.fresh z) e)
+    at_first z w = white_first x n w (subst (λ (m : ReaderState). next_state m x ≡ Some n) (o.fresh z) e)

@@ -4,7 +4,7 @@ use Rattle.std.proofs.lemmas.Bool.{cases_Bool, and_parts}
 use Rattle.std.proofs.lemmas.Option.{option_and_then_some}
 use Rattle.dets_term.specs.TermValue.{TermValue}
 use Rattle.term_text.specs.Token.{Token, opening, closing, comma, full_stop, name, number, is_white, IsSentence}
-use Rattle.term_text.specs.Machine.{stopped, NestState, wants, may_begin, take_token, Unfinished, no_token, in_name, in_minus, in_number, ReaderState, fresh_state, goes_on, extended, settled, first_byte, single, seated, begun_token, begun, step, run}
+use Rattle.term_text.specs.Machine.{stopped, NestState, wants, may_begin, take_token, Unfinished, no_token, in_name, in_minus, in_number, ReaderState, fresh_state, goes_on, extended, settled, first_byte, single, seated, begun_token, begun, next_state, run}
 use Rattle.term_text.proofs.Forward.{between, amid, run_step}
 use Rattle.term_text.proofs.Sentences.{run-append, reaches, stopped_nest}
 
@@ -22,7 +22,7 @@ nothing_begins : (s : NestState) (t : TermValue) (o : Option Token) (x : ℕ) �
 nothing_begins s t (Some token) x e = ap seated (no_token_behind_stop s t token e)
 nothing_begins s t None x e = rw e
 
-step_behind_stop : (s : NestState) (t : TermValue) (x : ℕ) → s.place ≡ stopped t → is_white x ≡ false → step (between s) x ≡ None
+step_behind_stop : (s : NestState) (t : TermValue) (x : ℕ) → s.place ≡ stopped t → is_white x ≡ false → next_state (between s) x ≡ None
 step_behind_stop s t x e w = ap (λ b. cond b (seated (Some s)) (begun_token s (single x) x)) w ∙ nothing_begins s t (single x) x e
 
 none_is_not_some : {A : Type 0} (o : Option A) (n : A) → o ≡ None → o ≡ Some n → ⊥
@@ -89,7 +89,7 @@ extended_holds s (in_name cs) x n h e = amid_holds s (extended (in_name cs) x) n
 extended_holds s in_minus x n h e = amid_holds s (extended in_minus x) n h e
 extended_holds s (in_number minus z) x n h e = amid_holds s (extended (in_number minus z) x) n h e
 
-step_holds : (s n : ReaderState) (x : ℕ) → Holds s → step s x ≡ Some n → Holds n
+step_holds : (s n : ReaderState) (x : ℕ) → Holds s → next_state s x ≡ Some n → Holds n
 step_holds s n x h e =
     either_holds (goes_on s.token x) (option_map (λ (u : Unfinished). record s { token = u }) (extended s.token x))
     (option_and_then (λ (m : NestState). begun m x) (settled s.nest s.token)) n
@@ -99,7 +99,7 @@ step_holds s n x h e =
 run_holds : (s n : ReaderState) (p : List ℕ) → Holds s → run s p ≡ Some n → Holds n
 run_holds s n [] h e = let same : s ≡ n = cc in subst (λ m. Holds m) same h
 run_holds s n (x ∷ p) h e =
-    option_and_then_some (λ (m : ReaderState). run m p) (step s x) n e
+    option_and_then_some (λ (m : ReaderState). run m p) (next_state s x) n e
     (λ m here more. run_holds m n p (step_holds s m x h here) more)
 
 held_behind_stop : (u : Unfinished) (s : NestState) (t : TermValue) → s.place ≡ stopped t → MayHold u s → u ≡ no_token

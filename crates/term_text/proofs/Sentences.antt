@@ -2,8 +2,8 @@
 use Rattle.std.proofs.Common.{◌≡◌, ℕ, ◌≤◌, ◌<◌, List, [], ◌∷◌, ◌++◌, length, length-append, Option, Some, None, option_and_then, refl, ap, ◌∙◌, sym, subst, append_assoc, append-nil, arith}
 use Rattle.dets_term.specs.TermValue.{TermValue, integer, atom, tuple, mapping, nil, cons, bits, depth}
 use Rattle.term_text.specs.declared.nest.Bracket.TheVariants.{Tuple, List as Square}
-use Rattle.term_text.specs.Token.{Token, opening, closing, comma, full_stop, name, number, tokens_of, tokens_of_elements, tokens_after, IsBuilt, IsApart, Fronts, Spells, IsSentence}
-use Rattle.term_text.specs.Machine.{want, whole, stopped, NestState, take_tokens, no_token, ReaderState, fresh_state, step, run}
+use Rattle.term_text.specs.Token.{Token, opening, closing, comma, full_stop, name, number, tokens_of, tokens_of_elements, tokens_after, IsBuilt, IsApart, BeginsWithToken, Spells, IsSentence}
+use Rattle.term_text.specs.Machine.{want, whole, stopped, NestState, take_tokens, no_token, ReaderState, fresh_state, next_state, run}
 use Rattle.term_text.proofs.Forward.{between, AreWithin, run_fronts, run_tokens}
 use Rattle.term_text.proofs.Terms.{take_term}
 
@@ -18,7 +18,7 @@ through (Some n) p q e = e n
 -- to read bytes and then more bytes is to read them all
 pub run-append : (s : ReaderState) (p q : List ℕ) → run s (p ++ q) ≡ option_and_then (λ (n : ReaderState). run n q) (run s p)
 run-append s [] q = refl
-run-append s (x ∷ p) q = through (step s x) p q (λ n. run-append n p q)
+run-append s (x ∷ p) q = through (next_state s x) p q (λ n. run-append n p q)
 
 -- ---- the tokens of a built term are within the limits
 
@@ -110,11 +110,11 @@ term_is_read t bytes rest b d e =
     = ap (take_tokens (record { frames = []; place = want })) (sym (append-nil (tokens_of t))) ∙ take_term t [] want [] refl b (omega arith) in
     run_tokens (tokens_of t) bytes rest (record { frames = []; place = want }) (whole_nest t) (within t b) e taken
 
-stop_is_read : (t : TermValue) (bytes rest : List ℕ) → Fronts full_stop bytes rest → run (between (whole_nest t)) bytes ≡ run (between (stopped_nest t)) rest
+stop_is_read : (t : TermValue) (bytes rest : List ℕ) → BeginsWithToken full_stop bytes rest → run (between (whole_nest t)) bytes ≡ run (between (stopped_nest t)) rest
 stop_is_read t bytes rest f = run_fronts full_stop (whole_nest t) (stopped_nest t) bytes rest tt f refl
 
 -- a full stop behind white space, with what follows it
-stop_text : (bytes rest : List ℕ) (f : Fronts full_stop bytes rest) → bytes ≡ (f.blanks ++ 46 ∷ []) ++ rest
+stop_text : (bytes rest : List ℕ) (f : BeginsWithToken full_stop bytes rest) → bytes ≡ (f.blanks ++ 46 ∷ []) ++ rest
 stop_text bytes rest f =
     f.whole ∙ ap (λ b. f.blanks ++ (b ++ rest)) f.spelled ∙ sym (append_assoc f.blanks (46 ∷ []) rest)
 
@@ -123,7 +123,7 @@ pub reaches : (t : TermValue) (bytes rest : List ℕ) → IsSentence t bytes res
     × (run fresh_state (init ++ 46 ∷ []) ≡ Some (record { nest = record { frames = []; place = stopped t }; token = no_token }))
 reaches t bytes rest s =
     let parts = Spells_parts (tokens_of t) (full_stop ∷ []) bytes rest s.text in
-    let stop : Fronts full_stop parts.0 rest = subst (λ r. Fronts full_stop parts.0 r) parts.2.2 parts.2.1 in
+    let stop : BeginsWithToken full_stop parts.0 rest = subst (λ r. BeginsWithToken full_stop parts.0 r) parts.2.2 parts.2.1 in
     let end : List ℕ = stop.blanks ++ 46 ∷ [] in
     let front = Spells_front (tokens_of t) bytes end rest (omega (arith, length-append stop.blanks (46 ∷ [])))
     (subst (λ m. Spells (tokens_of t) bytes m) (stop_text parts.0 rest stop) parts.1) in (

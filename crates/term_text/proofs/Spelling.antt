@@ -8,7 +8,7 @@ use Rattle.std.specs.List.{list_all}
 use Rattle.std.specs.Char.{is_ascii_digit, is_ascii_lowercase}
 use Rattle.term_text.specs.declared.nest.Bracket.TheVariants.{Tuple, List as Square}
 use Rattle.term_text.specs.Printed.{is_name_character, is_plain_atom}
-use Rattle.term_text.specs.Token.{Token, opening, closing, comma, full_stop, name, number, fits, is_white, each, with_digit, value_after, Decimal, Spelled, IsApart, Fronts, Spells}
+use Rattle.term_text.specs.Token.{Token, opening, closing, comma, full_stop, name, number, fits, is_white, each, with_digit, value_after, Decimal, Spelled, IsApart, BeginsWithToken, Spells}
 use Rattle.term_text.specs.Machine.{NestState, may_begin, Unfinished, no_token, in_name, in_minus, in_number, goes_on, extended, first_byte, single}
 use Rattle.term_text.specs.Valid.{ValidToken}
 use Rattle.term_text.proofs.HasRead.{TokenBytes}
@@ -25,7 +25,7 @@ IsApart-more (name characters) (x ∷ r) c h = h
 IsApart-more (number z) [] c h = absurd h
 IsApart-more (number z) (x ∷ r) c h = h
 
-Fronts-more : (token : Token) (b r c : List ℕ) → Fronts token b r → Fronts token (b ++ c) (r ++ c)
+Fronts-more : (token : Token) (b r c : List ℕ) → BeginsWithToken token b r → BeginsWithToken token (b ++ c) (r ++ c)
 Fronts-more token b r c f = record {
   blanks = f.blanks;
   spelling = f.spelling;

@@ -3,7 +3,7 @@ use Rattle.std.proofs.Common.{◌≡◌, ℕ, false, cond, List, [], ◌∷◌, 
 use Rattle.std.proofs.lemmas.Option.{option_and_then_some}
 use Rattle.dets_term.specs.TermValue.{TermValue}
 use Rattle.term_text.specs.Token.{full_stop, tokens_of, IsSentence}
-use Rattle.term_text.specs.Machine.{NestPlace, want, opened, after, whole, stopped, ReaderState, fresh_state, step, run}
+use Rattle.term_text.specs.Machine.{NestPlace, want, opened, after, whole, stopped, ReaderState, fresh_state, next_state, run}
 use Rattle.term_text.specs.Reading.{is_stopped}
 use Rattle.term_text.proofs.Spelling.{by_cond, Spells-more}
 use Rattle.term_text.proofs.Backward.{sound}
@@ -18,7 +18,7 @@ stopped_term (stopped t) = Some t
 -- the term that the machine reads from these bytes and a full stop
 abbrev pub read : List ℕ → Option TermValue
 read bytes =
-    option_and_then (λ (s : ReaderState). cond (is_stopped s.nest.place) None (option_and_then (λ (n : ReaderState). stopped_term n.nest.place) (step s 46)))
+    option_and_then (λ (s : ReaderState). cond (is_stopped s.nest.place) None (option_and_then (λ (n : ReaderState). stopped_term n.nest.place) (next_state s 46)))
     (run fresh_state bytes)
 
 stopped_at : (p : NestPlace) (t : TermValue) → stopped_term p ≡ Some t → p ≡ stopped t
@@ -40,7 +40,7 @@ text_of bytes more t e =
     option_and_then_some _ (run fresh_state bytes) t e (λ s reached rest.
     by_cond (is_stopped s.nest.place) _ _ _ rest
     (λ _ none. cc)
-    (λ on q. option_and_then_some _ (step s 46) t q (λ n stop place.
+    (λ on q. option_and_then_some _ (next_state s 46) t q (λ n stop place.
     let sentence = sound bytes 46 s n t reached (going_on s.nest.place on) stop (stopped_at n.nest.place t place) in
     record {
       shallow = sentence.shallow;

@@ -1,13 +1,14 @@
--- The definitions of this crate, one file for each idea.
-pub mod FeedInside
-pub mod FeedState
+-- ---- cited by public contracts
 pub mod Printed
+pub mod IsPlain
 pub mod Token
-pub mod Machine
-pub mod Reading
-pub mod Valid
-pub mod ReaderView
 pub mod Next
 pub mod Script
+pub mod FeedState
+-- ---- middles: the machine that reads byte by byte, and the code's reader as its states
+pub mod Machine
+pub mod Reading
+pub mod ReaderView
+pub mod Valid
 pub mod Reaches
-pub mod IsPlain
+pub mod FeedInside

@@ -148,11 +148,11 @@ abbrev pub begun : NestState → ℕ → Option ReaderState
 begun nest x = cond (is_white x) (seated (Some nest)) (begun_token nest (single x) x)
 
 -- the state after a byte; none where no term has such a text
-abbrev pub step : ReaderState → ℕ → Option ReaderState
-step s x =
+abbrev pub next_state : ReaderState → ℕ → Option ReaderState
+next_state s x =
     cond (goes_on s.token x) (option_map (λ (u : Unfinished). record s { token = u }) (extended s.token x))
     (option_and_then (λ (n : NestState). begun n x) (settled s.nest s.token))
 
 abbrev pub run : ReaderState → List ℕ → Option ReaderState
 run s [] = Some s
-run s (x ∷ xs) = option_and_then (λ (n : ReaderState). run n xs) (step s x)
+run s (x ∷ xs) = option_and_then (λ (n : ReaderState). run n xs) (next_state s x)

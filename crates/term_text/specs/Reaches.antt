@@ -1,7 +1,7 @@
 -- What the machine has come to behind some bytes, up to the first full stop behind a whole term.
 use Rattle.std.specs.Prelude.{◌≡◌, ℕ, ◌+◌, ◌<◌, ◌≤◌, ◌^◌, true, false, cond, ◌&&◌, ◌==◌, List, [], ◌∷◌, ◌++◌, Some, None, ◌⊎◌}
 use Rattle.term_text.specs.Token.{is_white}
-use Rattle.term_text.specs.Machine.{ReaderState, fresh_state, step}
+use Rattle.term_text.specs.Machine.{ReaderState, fresh_state, next_state}
 use Rattle.term_text.specs.Reading.{is_stopped, HasFew}
 use Rattle.term_text.specs.Valid.{IsValid}
 
@@ -17,7 +17,7 @@ IsInTime s count = (is_stopped s.nest.place ≡ true) ⊎ (count < 2 ^ 24)
 abbrev pub Reaches : ReaderState → ℕ → List ℕ → ReaderState → ℕ → Type 0
 Reaches s count [] n total = (n ≡ s) × (total ≡ count)
 Reaches s count (x ∷ xs) n total =
-    (is_stopped s.nest.place ≡ false) × ((m : ReaderState) × (step s x ≡ Some m) × IsInTime m (counted count x) × Reaches m (counted count x) xs n total)
+    (is_stopped s.nest.place ≡ false) × ((m : ReaderState) × (next_state s x ≡ Some m) × IsInTime m (counted count x) × Reaches m (counted count x) xs n total)
 
 -- the bytes lead to a state in which the next byte cannot stand, or is one too many
 pub record Fails (s : ReaderState) (count : ℕ) (bytes : List ℕ) : Type 0 where
@@ -29,7 +29,7 @@ pub record Fails (s : ReaderState) (count : ℕ) (bytes : List ℕ) : Type 0 whe
   pub total : ℕ
   pub reached : Reaches s count front state total
   pub moving : is_stopped state.nest.place ≡ false
-  pub failed : (step state byte ≡ None) ⊎ ((m : ReaderState) × (step state byte ≡ Some m) × (is_stopped m.nest.place ≡ false) × (2 ^ 24 ≤ counted total byte))
+  pub failed : (next_state state byte ≡ None) ⊎ ((m : ReaderState) × (next_state state byte ≡ Some m) × (is_stopped m.nest.place ≡ false) × (2 ^ 24 ≤ counted total byte))
 
 -- What holds between two bytes: no bracket has more parts than bytes were read, and while there is no full stop
 -- these are fewer than a term may have.

@@ -99,7 +99,7 @@ IsApart comma rest = Unit {0}
 IsApart full_stop rest = Unit {0}
 
 -- a token in front of some bytes: white space, its spelling, and what follows it
-pub record Fronts (token : Token) (bytes rest : List ℕ) : Type 0 where
+pub record BeginsWithToken (token : Token) (bytes rest : List ℕ) : Type 0 where
   pub blanks : List ℕ
   pub spelling : List ℕ
   pub blank : each is_white blanks ≡ true
@@ -110,7 +110,7 @@ pub record Fronts (token : Token) (bytes rest : List ℕ) : Type 0 where
 -- the bytes spell these tokens, and then the rest follows
 abbrev pub Spells : List Token → List ℕ → List ℕ → Type 0
 Spells [] bytes rest = bytes ≡ rest
-Spells (token ∷ tokens) bytes rest = (after : List ℕ) × Fronts token bytes after × Spells tokens after rest
+Spells (token ∷ tokens) bytes rest = (after : List ℕ) × BeginsWithToken token bytes after × Spells tokens after rest
 
 -- a sentence: the text of a term with its full stop, in front of the rest
 pub record IsSentence (t : TermValue) (bytes rest : List ℕ) : Type 0 where

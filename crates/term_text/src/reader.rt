@@ -1,7 +1,7 @@
 ghost use Rattle.std.specs.Prelude.{◌≡◌, ◌-◌, ◌<◌, ◌≤◌, ◌+◌, ◌^◌, ◌==◌, true, false, length, take, ◌⊎◌, Some, None, option_and_then, IfOk, OnOk, IsErrOf};
 ghost use Rattle.dets_term.specs.TermValue.{atom};
 ghost use Rattle.term_text.specs.Token.{is_white, with_digit};
-ghost use Rattle.term_text.specs.Machine.{no_token, fresh_state, first_byte, settled, begun, step, stopped, ReaderState};
+ghost use Rattle.term_text.specs.Machine.{no_token, fresh_state, first_byte, settled, begun, next_state, stopped, ReaderState};
 ghost use Rattle.term_text.specs.Reading.{is_stopped, HasFew};
 ghost use Rattle.term_text.specs.Reading.{nest_of};
 ghost use Rattle.term_text.specs.ReaderView.{token_of, reader_of};
@@ -101,10 +101,10 @@ impl Reader {
     fn advance(&mut self, alloc: Global, byte: u8) -> Result<(), TextFault>
         requires order { IsOrderly (reader_of self.old) self.old.length }
         requires moving { is_stopped (reader_of self.old).nest.place ≡ false }
-        ensures ok { OnOk result ((step (reader_of self.old) byte ≡ Some (reader_of self.new)) × IsInTime (reader_of self.new) self.new.length) }
+        ensures ok { OnOk result ((next_state (reader_of self.old) byte ≡ Some (reader_of self.new)) × IsInTime (reader_of self.new) self.new.length) }
         ensures count { OnOk result (self.new.length ≡ counted self.old.length byte) }
-        ensures not_yet { IsErrOf result TextFault.NotYet → (step (reader_of self.old) byte ≡ None)
-            ⊎ ((m : ReaderState) × (step (reader_of self.old) byte ≡ Some m) × (is_stopped m.nest.place ≡ false) × (2 ^ 24 ≤ counted self.old.length byte)) }
+        ensures not_yet { IsErrOf result TextFault.NotYet → (next_state (reader_of self.old) byte ≡ None)
+            ⊎ ((m : ReaderState) × (next_state (reader_of self.old) byte ≡ Some m) × (is_stopped m.nest.place ≡ false) × (2 ^ 24 ≤ counted self.old.length byte)) }
     {
         self.read(alloc, byte)?;
         if self.length > 0 || !is_white_space(byte) {
@@ -120,9 +120,9 @@ impl Reader {
     fn read(&mut self, alloc: Global, byte: u8) -> Result<(), TextFault>
         requires valid { IsValid (reader_of self.old) }
         requires few { HasFew (2 ^ 24 - 1) (reader_of self.old).nest.frames }
-        ensures ok { OnOk result (step (reader_of self.old) byte ≡ Some (reader_of self.new)) }
+        ensures ok { OnOk result (next_state (reader_of self.old) byte ≡ Some (reader_of self.new)) }
         ensures length { self.new.length ≡ self.old.length }
-        ensures not_yet { IsErrOf result TextFault.NotYet → step (reader_of self.old) byte ≡ None }
+        ensures not_yet { IsErrOf result TextFault.NotYet → next_state (reader_of self.old) byte ≡ None }
     {
         match &mut self.token {
             Token::Atom(name) if is_name_byte(byte) => name.push(byte),
