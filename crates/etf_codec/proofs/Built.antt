@@ -40,9 +40,8 @@ built_integers parts bytes e short =
     ∙ built_within (length (map (λ x. integer (pos x)) bytes)) (integers bytes) (rw length-map short) (omega (arith, depth-integers bytes))
 
 -- what was handed on is what was made
-pub IfOk-made : {A E F : Type 0} (r : Result A E) (made : Result A F) (x : A) → IfOk r (λ t. made ≡ Ok t) → made ≡ Ok x → IfOk r (λ t. t ≡ x)
-IfOk-made (Ok t) made x ok e = let same : Ok t ≡ Ok x = sym ok ∙ e in cc
-IfOk-made (Err fault) made x ok e = tt
+pub one_made : {A E : Type 0} (r : Result A E) (t x : A) → r ≡ Ok t → r ≡ Ok x → t ≡ x
+one_made r t x e f = let same : Ok t ≡ Ok x = sym e ∙ f in cc
 
 -- where no level is left for bytes there is none
 pub depth-integers_levels : (bytes : List ℕ) (levels : ℕ) → (levels ≡ 0 → length bytes ≡ 0) → depth (integers bytes) ≤ suc levels

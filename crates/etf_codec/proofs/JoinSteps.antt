@@ -18,6 +18,7 @@ use Rattle.etf_codec.specs.declared.joining.Joined.{Joined}
 use Rattle.etf_codec.specs.Joins.{JoinsWithin}
 use Rattle.etf_codec.specs.Machine.{resume, reading_at}
 use Rattle.etf_codec.specs.Begun.{PartsFit, PairsFit, FrameFits, PartFits, MayBegin}
+use Rattle.etf_codec.proofs.Built.{one_made}
 use Rattle.etf_codec.proofs.PairOrder.{length-placed, deepest-placed, map_built_within, depth-map_of}
 use Rattle.etf_codec.proofs.Resuming.{element_more, item_more, item_last, value_more}
 
@@ -153,9 +154,6 @@ values_end ahead start at ps qs k v h e begun position =
     ap (λ n. resume (record { start = start; frame = Value n ps k } ∷ begun) at v position) h ∙ ap (λ rs. resume begun start (map_of rs) position) (sym e)
 
 -- what was built is what was to be built
-pub one_made : {A E : Type 0} (r : Result A E) (t x : A) → r ≡ Ok t → r ≡ Ok x → t ≡ x
-one_made r t x e f = let same : Ok t ≡ Ok x = sym e ∙ f in cc
-
 pub one_made_or : {A E : Type 0} (r : Result A E) (f : E) (t x : A) → r ≡ Ok t → (r ≡ Err f) ⊎ (r ≡ Ok x) → t ≡ x
 one_made_or r f t x e (inl h) = let both : Ok t ≡ Err f = sym e ∙ h in cc
 one_made_or r f t x e (inr h) = one_made r t x e h

@@ -6,10 +6,9 @@ ghost use Rattle.etf_codec.specs.Reads.{ReadsWithin};
 ghost use Rattle.etf_codec.specs.ReadTerms.{IsLeaf, IsAtomOf};
 
 use crate::EtfFault;
-use crate::building::only_memory;
 use crate::cursor::Cursor;
 use bstr::ByteSlice;
-use dets_term::{Term, TermFault, Text};
+use dets_term::{Term, TermFault, Text, within_limits};
 use std::alloc::Global;
 
 /// How many characters an atom has at most.
@@ -67,6 +66,6 @@ fn named(alloc: Global, text: &str, term: u64) -> Result<Term, EtfFault>
 {
     match Term::atom(alloc, text) {
         Err(TermFault::LongAtom) => Err(EtfFault::BadAtom(term)),
-        made => only_memory(made),
+        made => Ok(within_limits(made)?),
     }
 }

@@ -5,13 +5,12 @@ ghost use Rattle.etf_codec.specs.Heads.{HeadReads, HeadFits};
 
 use crate::EtfFault;
 use crate::big_integer::BigInteger;
-use crate::building::only_memory;
 use crate::cursor::Cursor;
 use crate::frame::Frame;
 use crate::leaves::{read_leaf, read_no_tail};
 use crate::map_pairs::MapPairs;
 use crate::strings::read_string;
-use dets_term::{PairList, Term, TermList};
+use dets_term::{PairList, Term, TermList, within_limits};
 use etf_model::tags::{LARGE_BIG, LARGE_TUPLE, LIST, MAP, SMALL_BIG, SMALL_TUPLE, STRING};
 use std::alloc::Global;
 
@@ -61,7 +60,7 @@ fn tuple_head(
 {
     let count = cursor.count(size, levels, start)?;
     if count == 0 {
-        let empty = only_memory(Term::tuple(TermList::new(alloc)))?;
+        let empty = within_limits(Term::tuple(TermList::new(alloc)))?;
         return Ok(Head::Whole(empty));
     }
     Ok(Head::Open(Frame::Element(count - 1, TermList::new(alloc))))
@@ -94,7 +93,7 @@ fn map_head(
 {
     let count = cursor.count(4, levels, start)?;
     if count == 0 {
-        let empty = only_memory(Term::map(PairList::new(alloc)))?;
+        let empty = within_limits(Term::map(PairList::new(alloc)))?;
         return Ok(Head::Whole(empty));
     }
     Ok(Head::Open(Frame::Key(count - 1, MapPairs::new(alloc))))

@@ -5,10 +5,9 @@ ghost use Rattle.etf_codec.specs.Joins.{JoinsTo, JoinsWithin};
 ghost use Rattle.etf_codec.specs.declared.frame.Frame.TheVariants.{Element, Item, Tail, Key, Value};
 
 use crate::EtfFault;
-use crate::building::only_memory;
 use crate::frame::{Begun, Frame};
 use crate::map_pairs::MapPairs;
-use dets_term::{Term, TermList};
+use dets_term::{Term, TermList, within_limits};
 use std::alloc::Global;
 
 /// A begun term with one more part.
@@ -55,7 +54,7 @@ fn join_element(
     let mut parts = parts;
     parts.push(part)?;
     if ahead == 0 {
-        let tuple = only_memory(Term::tuple(parts))?;
+        let tuple = within_limits(Term::tuple(parts))?;
         return Ok(Joined::Whole(start, tuple));
     }
     let frame = Frame::Element(ahead - 1, parts);
@@ -97,7 +96,7 @@ fn join_tail(
     ensures within { (levels : ℕ) → levels ≤ 255 → FrameFits (Tail parts) levels → PartFits (Tail parts) levels part
         → JoinsWithin (record { start = start; frame = Tail parts }) levels result }
 {
-    let list = only_memory(Term::list_with_tail(alloc, parts, part))?;
+    let list = within_limits(Term::list_with_tail(alloc, parts, part))?;
     Ok(Joined::Whole(start, list))
 }
 
@@ -133,7 +132,7 @@ fn join_value(
     pairs.insert(key, value)?;
     if ahead == 0 {
         let pairs = pairs.into_pairs(alloc)?;
-        let map = only_memory(Term::map(pairs))?;
+        let map = within_limits(Term::map(pairs))?;
         return Ok(Joined::Whole(start, map));
     }
     let frame = Frame::Key(ahead - 1, pairs);

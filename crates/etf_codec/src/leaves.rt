@@ -8,10 +8,9 @@ ghost use Rattle.etf_codec.specs.ReadTerms.{IsLeaf};
 use crate::EtfFault;
 use crate::atoms::read_atom;
 use crate::bits::{read_binary, read_bit_binary};
-use crate::building::only_memory;
 use crate::cursor::Cursor;
 use crate::numbers::{integer_32, small_integer};
-use dets_term::{Term, TermList};
+use dets_term::{Term, TermList, within_limits};
 use etf_model::tags::{
     ATOM, ATOM_UTF8, BINARY, BIT_BINARY, INTEGER, LARGE_BIG, LARGE_TUPLE, LIST, MAP, NIL,
     SMALL_ATOM, SMALL_ATOM_UTF8, SMALL_BIG, SMALL_INTEGER, SMALL_TUPLE, STRING,
@@ -61,5 +60,5 @@ fn empty_list(alloc: Global) -> Result<Term, EtfFault>
     ensures ok { IfOk result (λ t. t ≡ nil) }
     ensures err { IfErr result (λ fault. fault ≡ EtfFault.Memory) }
 {
-    only_memory(Term::list(TermList::new(alloc)))
+    Ok(within_limits(Term::list(TermList::new(alloc)))?)
 }

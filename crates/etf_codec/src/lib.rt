@@ -16,7 +16,6 @@ pub use std::alloc::AllocError as Memory;
 mod atoms;
 mod big_integer;
 mod bits;
-mod building;
 mod cursor;
 mod decoding;
 mod encoding;

@@ -6,9 +6,8 @@ ghost use Rattle.etf_model.specs.Spelling.{string};
 ghost use Rattle.etf_codec.specs.Reads.{ReadsWithin};
 
 use crate::EtfFault;
-use crate::building::only_memory;
 use crate::cursor::Cursor;
-use dets_term::{Term, TermList};
+use dets_term::{Term, TermList, within_limits};
 use std::alloc::Global;
 
 /// The list of bytes that begins at an offset, below which so many levels are left.
@@ -36,5 +35,5 @@ fn list_of_bytes(alloc: Global, bytes: &[u8]) -> Result<Term, EtfFault>
     for byte in bytes {
         parts.push(Term::int(i128::from(*byte)))?;
     }
-    only_memory(Term::list(parts))
+    Ok(within_limits(Term::list(parts))?)
 }

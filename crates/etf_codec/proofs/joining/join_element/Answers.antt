@@ -1,13 +1,13 @@
 use Rattle.std.proofs.Common.{◌+◌, ◌≤◌, arith, sym, ap, ◌∙◌}
 use Rattle.dets_term.specs.TermValue.{elements, depth}
 use Rattle.etf_codec.specs.Machine.{resume}
-use Rattle.etf_codec.proofs.Built.{IfErr-ok}
+use Rattle.etf_codec.proofs.Built.{IfErr-ok, one_made}
 use Rattle.etf_codec.proofs.TermSteps.{built_tuple, depth-tuple_of}
-use Rattle.etf_codec.proofs.JoinSteps.{fit_more, fit_last, part_fits, may_begin_element, element_goes_on, element_ends, one_made}
+use Rattle.etf_codec.proofs.JoinSteps.{fit_more, fit_last, part_fits, may_begin_element, element_goes_on, element_ends}
 use Rattle.etf_codec.proofs.joining.join_element.Goals as goal
 
-pub only_memory-requires : goal.only_memory-requires
-only_memory-requires c =
+pub within_limits-requires : goal.within_limits-requires
+within_limits-requires c =
     let fits = fit_last c.args.parts c.push.new.self c.args.part c.args.ahead 255 c.in_ok-push.ensures.ok c.requires.frame c.requires.part in
     IfErr-ok c.tuple.result _ _ (c.tuple.ensures ∙ built_tuple c.push.new.self 255 (omega arith) (omega (arith, fits.1)) fits.0)
 

@@ -6,8 +6,8 @@ use Rattle.etf_codec.proofs.TermSteps.{built_list, depth-list_of, IfErr-either, 
 use Rattle.etf_codec.proofs.JoinSteps.{list_fits, one_made_or}
 use Rattle.etf_codec.proofs.joining.join_tail.Goals as goal
 
-pub only_memory-requires : goal.only_memory-requires
-only_memory-requires c =
+pub within_limits-requires : goal.within_limits-requires
+within_limits-requires c =
     IfErr-either c.list_with_tail.result Memory (chain c.args.parts c.args.part)
     (or_else (λ e. e ∙ built_list c.args.parts c.args.part 255 (omega arith)
     (omega (arith, c.requires.frame.1)) c.requires.part.1 c.requires.frame.0 c.requires.part.0)

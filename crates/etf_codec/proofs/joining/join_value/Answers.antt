@@ -1,13 +1,13 @@
 use Rattle.std.proofs.Common.{◌+◌, ◌≤◌, arith, sym, ap, ◌∙◌}
 use Rattle.dets_term.specs.TermValue.{depth, elements}
 use Rattle.etf_codec.specs.Machine.{resume}
-use Rattle.etf_codec.proofs.Built.{IfErr-ok}
+use Rattle.etf_codec.proofs.Built.{IfErr-ok, one_made}
 use Rattle.etf_codec.proofs.PairOrder.{depth-map_of}
-use Rattle.etf_codec.proofs.JoinSteps.{pairs_more, pairs_last, part_fits, may_begin_key, value_goes_on, values_end, one_made, map_made}
+use Rattle.etf_codec.proofs.JoinSteps.{pairs_more, pairs_last, part_fits, may_begin_key, value_goes_on, values_end, map_made}
 use Rattle.etf_codec.proofs.joining.join_value.Goals as goal
 
-pub only_memory-requires : goal.only_memory-requires
-only_memory-requires c =
+pub within_limits-requires : goal.within_limits-requires
+within_limits-requires c =
     let fits = pairs_last c.args.pairs c.insert.new.self c.args.key c.args.value c.args.ahead 255 c.in_ok-insert.ensures.ok c.requires.frame.0
     c.requires.frame.1 c.requires.part in
     IfErr-ok c.map.result _ _ (c.map.ensures
