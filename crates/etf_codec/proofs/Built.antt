@@ -1,20 +1,13 @@
 -- Terms that are built within their limits.
-use Rattle.std.proofs.Common.{◌≡◌, ℕ, zero, suc, ◌<◌, ◌≤◌, ◌^◌, pos, true, List, [], ◌∷◌, map, length, Result, Ok, Err, nat_lt, nat_le, sym, refl, ap, ◌∙◌}
+use Rattle.std.proofs.Common.{◌≡◌, ℕ, zero, suc, ◌<◌, ◌≤◌, ◌^◌, pos, List, [], ◌∷◌, map, length, Result, Ok, Err, sym, refl, ap, ◌∙◌}
 use Rattle.std.proofs.Common.{arith}
 use Rattle.std.specs.Prelude.{IfOk, IfErr}
 use Rattle.std.proofs.lemmas.List.{length-map}
-use Rattle.std.proofs.lemmas.Bool.Decides.{nat_tests}
 use Rattle.dets_term.specs.TermValue.{TermValue, integer, nil, chain, depth}
 use Rattle.dets_term.specs.IsTerm.{built}
 use Rattle.dets_term.specs.Parts.{deepest, parts_depth-chain}
+use Rattle.dets_term.specs.Limits.{built-within}
 use Rattle.etf_model.specs.Layout.{integers}
-
--- within the limits it is the term itself
-pub built_within : (parts : ℕ) (t : TermValue) → parts < 2 ^ 32 → depth t ≤ 256 → built parts t ≡ Ok t
-built_within parts t few shallow =
-    let first : nat_lt parts (2 ^ 32) ≡ true = grind (arith, nat_tests) in
-    let second : nat_le (depth t) 256 ≡ true = grind (arith, nat_tests) in
-    rw (first, second) refl
 
 -- what is Ok is no fault
 pub IfErr-ok : {A E : Type 0} (r : Result A E) (x : A) (P : E → Type 0) → r ≡ Ok x → IfErr r P
@@ -37,7 +30,7 @@ pub built_integers : (parts : List TermValue) (bytes : List ℕ) → parts ≡ m
     → built (length parts) (chain parts nil) ≡ Ok (integers bytes)
 built_integers parts bytes e short =
     ap (λ ts. built (length ts) (chain ts nil)) e
-    ∙ built_within (length (map (λ x. integer (pos x)) bytes)) (integers bytes) (rw length-map short) (omega (arith, depth-integers bytes))
+    ∙ built-within (length (map (λ x. integer (pos x)) bytes)) (integers bytes) (rw length-map short) (omega (arith, depth-integers bytes))
 
 -- what was handed on is what was made
 pub one_made : {A E : Type 0} (r : Result A E) (t x : A) → r ≡ Ok t → r ≡ Ok x → t ≡ x

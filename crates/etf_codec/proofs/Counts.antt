@@ -1,5 +1,5 @@
 -- Numbers of parts, as formats read them.
-use Rattle.std.proofs.Common.{◌≡◌, List, ℕ, zero, suc, ◌+◌, ◌*◌, ◌-◌, ◌<◌, ◌≤◌, ◌≢◌, true, false, [], ◌∷◌, Ok, Err, refl, ap, ◌∙◌, arith, ◌==◌, cond}
+use Rattle.std.proofs.Common.{◌≡◌, List, ℕ, zero, suc, ◌+◌, ◌*◌, ◌-◌, ◌<◌, ◌≢◌, true, false, [], ◌∷◌, Ok, Err, refl, ap, ◌∙◌, arith, ◌==◌, cond}
 use Rattle.std.proofs.lemmas.Bool.Decides.{nat_tests}
 use Rattle.etf_model.specs.declared.fault.EtfFault.{EtfFault}
 use Rattle.etf_model.specs.declared.fault.EtfFault.TheVariants.{Depth}
@@ -18,12 +18,6 @@ count_after_true value (suc n) term offset (x ∷ bytes) = count_after_true (256
 pub count_number : (levels size : ℕ) (term : ℕ) (position : Position) → 0 < levels → (count levels size).read term position ≡ (number size).read term position
 count_number zero size term position h = absurd (omega arith)
 count_number (suc levels) size term position h = count_after_true 0 size term position.offset position.left
-
--- what follows of no level: no byte but 0
-pub count_none : (levels size : ℕ) (term : ℕ) (position : Position) → levels ≤ 0
-    → (count levels size).read term position ≡ (count_after false 0 size).read term position
-count_none zero size term position h = refl
-count_none (suc levels) size term position h = absurd (omega arith)
 
 -- where there may be none: a byte that is 0
 pub count_more : (n : ℕ) (term : ℕ) (position : Position) (x : ℕ) (behind : Position) → 0 < n → byte.read term position ≡ Ok (x, behind) → x ≡ 0

@@ -9,10 +9,6 @@ pub go_on_twice : {A B C : Type 0} (r : Reading A) (f : A → Position → Readi
 go_on_twice (Ok r) f g = refl
 go_on_twice (Err fault) f g = refl
 
-pub go_on_same : {A B : Type 0} (r : Reading A) (f g : A → Position → Reading B) → ((x : A) (b : Position) → f x b ≡ g x b) → go_on r f ≡ go_on r g
-go_on_same (Ok r) f g h = h r.0 r.1
-go_on_same (Err fault) f g h = refl
-
 -- behind each value
 last_step : {A B C : Type 0} (r : Reading (List A)) (u : A) (f : List A → B) (R : B → Position → Reading C)
     → go_on (go_on (go_on r (λ us b. Ok (u ∷ us, b))) (λ us b. Ok (f us, b))) R

@@ -130,11 +130,6 @@ head_fault F levels start before behind (Err y) fault h (inr e) = inr (e ∙ ap 
 
 -- ---- limits
 
--- a fault has none
-pub fault_fits : (tag levels : ℕ) (answer : Result Head EtfFault) (fault : EtfFault) → IsErrAnd answer (λ y. y ≡ fault) → HeadFits tag levels answer
-fault_fits tag levels (Ok head) fault h = absurd h
-fault_fits tag levels (Err y) fault h = tt
-
 -- under another tag that begins no list
 pub fits_as : (tag other levels : ℕ) (answer : Result Head EtfFault) → tag ≢ LIST → tag ≢ STRING → HeadFits tag levels answer → HeadFits other levels answer
 fits_as tag other levels (Ok (Whole t)) n m h = (h.0, λ x y. h.1 m n)

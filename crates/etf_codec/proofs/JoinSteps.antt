@@ -19,7 +19,7 @@ use Rattle.etf_codec.specs.Joins.{JoinsWithin}
 use Rattle.etf_codec.specs.Machine.{resume, reading_at}
 use Rattle.etf_codec.specs.Begun.{PartsFit, PairsFit, FrameFits, PartFits, MayBegin}
 use Rattle.etf_codec.proofs.Built.{one_made}
-use Rattle.etf_codec.proofs.PairOrder.{length-placed, deepest-placed, map_built_within, depth-map_of}
+use Rattle.etf_codec.proofs.PairOrder.{length-placed, deepest-placed, map_built-within, depth-map_of}
 use Rattle.etf_codec.proofs.Resuming.{element_more, item_more, item_last, value_more}
 
 -- ---- limits
@@ -91,13 +91,6 @@ may_begin_key (Tail vs) ahead ps = tt
 may_begin_key (Key m qs) ahead ps = tt
 may_begin_key (Value m qs k) ahead ps = tt
 
-pub may_begin_value : (outer : Frame) (ahead : ℕ) (ps : List (TermValue × TermValue)) (k : TermValue) → MayBegin outer (Value ahead ps k)
-may_begin_value (Element m vs) ahead ps k = tt
-may_begin_value (Item m vs) ahead ps k = tt
-may_begin_value (Tail vs) ahead ps k = tt
-may_begin_value (Key m qs) ahead ps k = tt
-may_begin_value (Value m qs l) ahead ps k = tt
-
 pub may_begin_element : (outer : Frame) (ahead : ℕ) (ts : List TermValue) → MayBegin outer (Element ahead ts)
 may_begin_element (Element m vs) ahead ts = tt
 may_begin_element (Item m vs) ahead ts = tt
@@ -163,7 +156,7 @@ pub map_made : (ps qs : List (TermValue × TermValue)) (levels : ℕ) → ps ≡
     → map_built ps ≡ Ok (map_of qs)
 map_made ps qs levels e up fits room =
     let order = ascending_is_by_key qs qs (IsPermutation-refl qs) up in
-    ap map_built e ∙ map_built_within qs order.0 order.1 (omega (arith, fits.1)) (omega (arith, depth-map_of qs levels fits.0))
+    ap map_built e ∙ map_built-within qs order.0 order.1 (omega (arith, fits.1)) (omega (arith, depth-map_of qs levels fits.0))
 
 pub within_as : (b : Begun) (frame : Frame) (part : TermValue) (r : Result Joined EtfFault) → b.frame ≡ frame
     → ((levels : ℕ) → levels ≤ 255 → FrameFits frame levels → PartFits frame levels part → JoinsWithin (record { start = b.start; frame = frame }) levels r)

@@ -8,7 +8,7 @@ use Rattle.dets_term.specs.IsTerm.{built}
 use Rattle.dets_term.specs.Order.{order}
 use Rattle.dets_term.specs.Pairs.{keys, placed, by_key, repeats, map_built}
 use Rattle.dets_term.specs.Parts.{deepest_of_pairs, parts_depth-map_of}
-use Rattle.etf_codec.proofs.Built.{built_within}
+use Rattle.dets_term.specs.Limits.{built-within}
 
 placed_lt : (p x : TermValue × TermValue) (xs : List (TermValue × TermValue)) → is_lt (order p.0 x.0) ≡ true → placed p (x ∷ xs) ≡ p ∷ x ∷ xs
 placed_lt p x xs e = ap (λ b. cond b (p ∷ x ∷ xs) (x ∷ placed p xs)) e
@@ -34,14 +34,14 @@ deepest-placed p (x ∷ xs) = by (is_lt (order p.0 x.0)) refl (deepest-placed p 
 
 -- ---- what building answers
 
-pub map_built_within : (pairs : List (TermValue × TermValue)) → repeats (keys pairs) ≡ false → by_key pairs ≡ pairs → length pairs < 2 ^ 32
+pub map_built-within : (pairs : List (TermValue × TermValue)) → repeats (keys pairs) ≡ false → by_key pairs ≡ pairs → length pairs < 2 ^ 32
     → depth (map_of pairs) ≤ 256
     → map_built pairs ≡ Ok (map_of pairs)
-map_built_within pairs apart in_order few shallow =
+map_built-within pairs apart in_order few shallow =
     let first : nat_lt (length pairs) (2 ^ 32) ≡ true = grind (arith, nat_tests) in
     ap (λ b. cond (b && repeats (keys pairs)) (Err RepeatedKey) (built (length pairs) (map_of (by_key pairs)))) first
     ∙ ap (λ b. cond b (Err RepeatedKey) (built (length pairs) (map_of (by_key pairs)))) apart
-    ∙ ap (λ ps. built (length pairs) (map_of ps)) in_order ∙ built_within (length pairs) (map_of pairs) few shallow
+    ∙ ap (λ ps. built (length pairs) (map_of ps)) in_order ∙ built-within (length pairs) (map_of pairs) few shallow
 
 pub depth-map_of : (pairs : List (TermValue × TermValue)) (levels : ℕ) → deepest_of_pairs pairs ≤ levels → depth (map_of pairs) ≤ suc levels
 depth-map_of pairs levels h = omega (arith, h, parts_depth-map_of pairs)

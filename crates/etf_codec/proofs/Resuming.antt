@@ -26,9 +26,6 @@ pushed ts t us = sym (append_assoc ts (t ∷ []) us)
 
 -- ---- tuples
 
-abbrev levels_of : List Begun → Begun → ℕ
-levels_of begun b = levels_below (b ∷ begun)
-
 -- reading a tuple's elements is reading its first one, with the others to come
 pub element_first : (n start : ℕ) (ts : List TermValue) (begun : List Begun) (position : Position)
     → go_on ((changed (times (suc n) (part_at (levels_below (record { start = start; frame = Element n ts } ∷ begun))))

@@ -1,15 +1,15 @@
 -- Terms with parts, as formats read them.
-use Rattle.std.proofs.Common.{◌≡◌, ℕ, zero, suc, ◌-◌, ◌<◌, ◌≤◌, ◌^◌, ◌⊎◌, max, Bool, true, false, cond, List, [], ◌∷◌, length, Result, Ok, Err, refl, ap, sym}
+use Rattle.std.proofs.Common.{◌≡◌, ℕ, zero, suc, ◌-◌, ◌<◌, ◌≤◌, ◌^◌, ◌⊎◌, max, Bool, true, false, cond, List, [], ◌∷◌, length, Result, Ok, Err, refl, ap}
 use Rattle.std.proofs.Common.{◌∙◌, inl, inr, arith}
-use Rattle.std.specs.Prelude.{IfOk, IfErr}
+use Rattle.std.specs.Prelude.{IfErr}
 use Rattle.dets_term.specs.TermValue.{TermValue, tuple, nil, chain, elements, is_list, parts_depth, depth}
 use Rattle.dets_term.specs.IsTerm.{built}
 use Rattle.dets_term.specs.Parts.{deepest, parts_depth-chain}
+use Rattle.dets_term.specs.Limits.{built-within}
 use Rattle.etf_model.specs.declared.fault.EtfFault.{EtfFault}
 use Rattle.etf_model.specs.Format.{Position, Reading, byte, go_on}
 use Rattle.etf_model.specs.Spelling.{count, list_of, no_tail, term_with, part_at, tail_at, body_of}
 use Rattle.etf_codec.proofs.Bytes.{go_on_ok, go_on_err, test_passes, test_fails}
-use Rattle.etf_codec.proofs.Built.{built_within}
 
 -- ---- a term by its tag
 
@@ -68,19 +68,13 @@ pub built_list : (ts : List TermValue) (tail : TermValue) (levels : ℕ) → lev
     → depth tail ≤ levels
     → built (length (elements (chain ts tail))) (chain ts tail) ≡ Ok (chain ts tail)
 built_list ts tail levels room few alone h k =
-    built_within (length (elements (chain ts tail))) (chain ts tail) (rw (length-list_of ts tail alone) few) (omega (arith, depth-list_of ts tail levels h k))
+    built-within (length (elements (chain ts tail))) (chain ts tail) (rw (length-list_of ts tail alone) few) (omega (arith, depth-list_of ts tail levels h k))
 
 -- what answers want of memory or a value
 pub IfErr-either : {A E : Type 0} (r : Result A E) (e : E) (x : A) → (r ≡ Err e) ⊎ (r ≡ Ok x) → IfErr r (λ f. f ≡ e)
 IfErr-either (Ok y) e x h = tt
 IfErr-either (Err f) e x (inl h) = cc
 IfErr-either (Err f) e x (inr h) = cc
-
-pub IfOk-either : {A E F : Type 0} (r : Result A E) (made : Result A F) (f : F) (x : A) → IfOk r (λ t. made ≡ Ok t) → (made ≡ Err f) ⊎ (made ≡ Ok x)
-    → IfOk r (λ t. t ≡ x)
-IfOk-either (Ok t) made f x ok (inl h) = let both : Ok t ≡ Err f = sym ok ∙ h in cc
-IfOk-either (Ok t) made f x ok (inr h) = let both : Ok t ≡ Ok x = sym ok ∙ h in cc
-IfOk-either (Err e) made f x ok h = tt
 
 pub or_else : {A B C : Type 0} → (B → C) → A ⊎ B → A ⊎ C
 or_else f (inl a) = inl a
@@ -93,4 +87,4 @@ depth-tuple_of ts levels h = omega (arith, h, parts_depth-chain ts)
 
 pub built_tuple : (ts : List TermValue) (levels : ℕ) → levels < 256 → length ts < 2 ^ 32 → deepest ts ≤ levels
     → built (length ts) (tuple (chain ts nil)) ≡ Ok (tuple (chain ts nil))
-built_tuple ts levels room few h = built_within (length ts) (tuple (chain ts nil)) few (omega (arith, depth-tuple_of ts levels h))
+built_tuple ts levels room few h = built-within (length ts) (tuple (chain ts nil)) few (omega (arith, depth-tuple_of ts levels h))

@@ -1,5 +1,5 @@
 -- What a reader answers that may want memory, and where two formats read the same.
-use Rattle.std.proofs.Common.{◌≡◌, ℕ, ◌⊎◌, Result, Ok, Err, Option, Some, None, ap, subst, ◌∙◌, sym, inl, inr}
+use Rattle.std.proofs.Common.{◌≡◌, ℕ, Result, Ok, Err, Option, Some, None, ap, subst, ◌∙◌, sym, inl, inr}
 use Rattle.std.specs.Prelude.{IfOk, IfErr}
 use Rattle.std.specs.Option.{MatchOption, ok_or}
 use Rattle.std.specs.Result.{IsErrAnd}
@@ -45,17 +45,3 @@ pub within_same : {A : Type 0} (F G : Format A) (term : ℕ) (before behind : Po
 within_same F G term before behind (Ok x) e h = e ∙ h
 within_same F G term before behind (Err fault) e (inl memory) = inl memory
 within_same F G term before behind (Err fault) e (inr h) = inr (e ∙ h)
-
--- where another format reads the same from another position
-pub within_on : {A : Type 0} (F G : Format A) (t u : ℕ) (p q behind : Position) (answer : Result A EtfFault)
-    → G.read u q ≡ F.read t p → ReadsWithin F t p behind answer → ReadsWithin G u q behind answer
-within_on F G t u p q behind (Ok x) e h = e ∙ h
-within_on F G t u p q behind (Err fault) e (inl memory) = inl memory
-within_on F G t u p q behind (Err fault) e (inr h) = inr (e ∙ h)
-
--- the fault of a part that itself may want memory
-pub within_rest : {A : Type 0} (F : Format A) (term : ℕ) (before behind : Position) (answer : Result A EtfFault) (fault : EtfFault)
-    → IsErrAnd answer (λ y. y ≡ fault) → (fault ≡ Memory) ⊎ (F.read term before ≡ Err fault) → ReadsWithin F term before behind answer
-within_rest F term before behind (Ok x) fault h e = absurd h
-within_rest F term before behind (Err y) fault h (inl memory) = inl (h ∙ memory)
-within_rest F term before behind (Err y) fault h (inr e) = inr (e ∙ ap Err (sym h))

@@ -1,11 +1,10 @@
--- What the public contracts of this crate cite are the definitions of `etf_model`, passed on here.
+-- ---- cited by public contracts
 pub use Rattle.etf_model.specs.Canonical
 pub use Rattle.etf_model.specs.Decoding
 pub use Rattle.etf_model.specs.Skipping
 pub use Rattle.etf_model.specs.SpellingFeed
 pub use Rattle.etf_model.specs.Next
--- ---- middles, which only private contracts cite. `Machine` says what is left to read of terms that are begun, by which
--- the code reads part by part.
+-- ---- middles: what a reader answers, and what is left to read of terms that are begun, by which the code reads part by part
 pub mod Reads
 pub mod ReadTerms
 pub mod GoesOn

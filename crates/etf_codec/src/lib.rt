@@ -1,9 +1,8 @@
 //! Terms in the External Term Format, both ways.
 //!
-//! Stands on `dets_term`, and on `bstr` for UTF-8. `encode` writes the canonical spelling of a term. `decode` reads
-//! each spelling, and `skip` passes over terms of more kinds; both are exact to the first byte that breaks a rule.
-//! `TermFeed`, on `bytes`, takes them from a stream that comes in pieces.
-//! What bytes mean is in `specs/Spelling.antt`, put together by `specs/Format.antt`.
+//! Stands on the definitions of `etf_model`, on `dets_term`, and on `bstr` for UTF-8. `encode` writes the canonical
+//! spelling of a term. `decode` reads each spelling, and `skip` passes over terms of more kinds; both are exact to the
+//! first byte that breaks a rule. `TermFeed`, on `bytes`, takes them from a stream that comes in pieces.
 #![tactic(auto)]
 
 pub use decoding::decode;

@@ -1,15 +1,15 @@
 -- Lemmas: parts of canonical spellings, and those of tuples and maps by the lists of their parts.
-use Rattle.std.proofs.Common.{◌≡◌, ℕ, zero, suc, ◌<◌, ◌≤◌, false, List, [], ◌∷◌, ◌++◌, length, map, refl, ap, ◌∙◌, arith}
+use Rattle.std.proofs.Common.{◌≡◌, ℕ, suc, ◌<◌, ◌≤◌, false, List, [], ◌∷◌, ◌++◌, length, map, refl, ap, ◌∙◌, arith}
 use Rattle.std.specs.List.{concat, flat_map, zip}
 use Rattle.std.proofs.lemmas.Bool.{cond-false}
 use Rattle.std.proofs.lemmas.List.{length-map}
-use Rattle.std.proofs.Common.{◌≡◌, ℕ, zero, suc, ◌+◌, ◌*◌, ◌<◌, ◌≤◌, false, List, [], ◌∷◌, ◌++◌, length, refl, ap, ◌∙◌, arith}
+use Rattle.std.proofs.Common.{◌≡◌, ℕ, suc, ◌+◌, ◌*◌, ◌<◌, ◌≤◌, false, List, [], ◌∷◌, ◌++◌, length, refl, ap, ◌∙◌, arith}
 use Rattle.std.specs.Str.{encode_utf8_all}
 use lib.Utf8.{encode}
 use Rattle.std.proofs.lemmas.Bool.{cond-false}
 use Rattle.std.proofs.lemmas.List.{length-append}
 use Rattle.std.proofs.lemmas.Str.{length-encode, len_utf8_bounds}
-use Rattle.std.proofs.Common.{◌≡◌, ℕ, zero, suc, ◌+◌, ◌*◌, ◌/◌, ◌%◌, ◌<◌, ◌≤◌, eqb, [], ◌∷◌, length, refl, ap, ◌∙◌, arith}
+use Rattle.std.proofs.Common.{◌≡◌, ℕ, suc, ◌+◌, ◌*◌, ◌/◌, ◌%◌, ◌<◌, ◌≤◌, eqb, [], ◌∷◌, length, refl, ap, ◌∙◌, arith}
 use Rattle.std.proofs.lemmas.Bool.{cond-false, ne_eqb}
 use Rattle.dets_term.specs.TermValue.{TermValue, integer, atom, tuple, mapping, nil, cons, bits, chain, map_of, is_list}
 use Rattle.dets_term.specs.TermValue.{TermValue}
@@ -18,10 +18,6 @@ use Rattle.etf_model.specs.Canonical.{canonical, canonical_each, canonical_end, 
 use Rattle.etf_model.specs.Canonical.{low_bytes}
 
 -- ---- magnitudes and characters
-
-pub low_bytes-zero : (most : ℕ) → low_bytes most 0 ≡ []
-low_bytes-zero zero = refl
-low_bytes-zero (suc most) = refl
 
 pub low_bytes-more : (most m : ℕ) → 0 < m → low_bytes (suc most) m ≡ m % 256 ∷ low_bytes most (m / 256)
 low_bytes-more most m h = cond-false (eqb m 0) [] (m % 256 ∷ low_bytes most (m / 256)) (ne_eqb m 0 (λ e. omega arith))

@@ -1,4 +1,4 @@
--- The reading of a format that is put together agrees with its relations where its parts' do.
+-- Lemmas: the reading of a format that is put together agrees with its relations where its parts' do.
 use Rattle.std.proofs.Common.{◌≡◌, ◌≢◌, ℕ, ◌+◌, Bool, true, false, List, [], ◌∷◌, ◌++◌, length, length-append, Ok, Err, inl, inr, refl, ap, ◌∙◌, sym, subst}
 use Rattle.std.proofs.Common.{append_assoc, arith}
 use Rattle.etf_model.specs.declared.fault.EtfFault.{EtfFault}

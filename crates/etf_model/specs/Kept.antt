@@ -1,4 +1,4 @@
--- Properties of formats that hold of what is put together where they hold of its parts.
+-- Lemmas: properties of formats that hold of what is put together where they hold of its parts.
 use Rattle.std.proofs.Common.{◌≡◌, ◌≢◌, ℕ, zero, suc, ◌+◌, Bool, true, false, List, [], ◌∷◌, ◌++◌, refl, sym, ◌∙◌, arith}
 use Rattle.etf_model.specs.declared.fault.EtfFault.{EtfFault}
 use Rattle.etf_model.specs.declared.fault.EtfFault.TheVariants.{Short, Memory, LongTerm}

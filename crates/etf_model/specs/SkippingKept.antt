@@ -1,4 +1,4 @@
--- A property of formats that is kept where they are put together holds of what is passed over.
+-- Lemmas: a property of formats that is kept where they are put together holds of what is passed over.
 use Rattle.std.proofs.Common.{ℕ, zero, suc, ◌+◌, ◌*◌, false, ◌||◌, ◌==◌}
 use Rattle.etf_model.specs.declared.fault.EtfFault.{EtfFault}
 use Rattle.etf_model.specs.declared.fault.EtfFault.TheVariants.{Unsupported, Depth}

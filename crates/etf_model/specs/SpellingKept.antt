@@ -1,4 +1,4 @@
--- A property of formats that is kept where they are put together holds of a spelling.
+-- Lemmas: a property of formats that is kept where they are put together holds of a spelling.
 use Rattle.std.proofs.Common.{◌≡◌, ◌≢◌, ℕ, zero, suc, ◌+◌, ◌*◌, pos, Bool, true, false, cond, not, ◌==◌, nat_le, List, [], refl, ◌∙◌, arith}
 use Rattle.std.proofs.lemmas.Bool.{eqb-true, eqb-false}
 use Rattle.std.specs.List.{list_any}

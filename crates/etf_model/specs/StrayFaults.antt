@@ -1,9 +1,9 @@
--- No rule of a format that is put together is broken by a fault that no test tells: by want of memory, or by a long term.
-use Rattle.std.proofs.Common.{◌≡◌, ◌≢◌, ℕ, Bool, List, Err, inl, inr, sym}
+-- Lemmas: no rule of a format that is put together is broken by a fault that no test tells, as want of memory, or a long
+-- term.
+use Rattle.std.proofs.Common.{◌≢◌, ℕ, Bool, List, inl, inr, sym}
 use Rattle.etf_model.specs.declared.fault.EtfFault.{EtfFault}
-use Rattle.etf_model.specs.declared.fault.EtfFault.TheVariants.{Short, Memory, LongTerm}
-use Rattle.etf_model.specs.Format.{Position, Format, followed, tested}
-use Rattle.etf_model.specs.Exact.{IsExact}
+use Rattle.etf_model.specs.declared.fault.EtfFault.TheVariants.{Memory, LongTerm}
+use Rattle.etf_model.specs.Format.{Format, followed, tested}
 use Rattle.etf_model.specs.Kept.{TellsOffset, IsKept}
 
 -- no test tells it
@@ -39,10 +39,3 @@ module _ (stray : EtfFault) (is_stray : IsStray stray) where
     of_tested = λ F test fault tells some f. record { no_break = tested-lacks F test fault tells f };
     of_framed = λ F f. record { no_break = λ term here bytes h. f.no_break here here bytes h };
   }
-
--- reading never answers it
-pub never_read : (stray : EtfFault) {A : Type 0} (F : Format A) → stray ≢ Short → IsExact F → Lacks stray F → (term : ℕ) (position : Position)
-    → F.read term position ≡ Err stray → ⊥
-never_read stray F other f n term position e =
-    let b = f.read_break term position stray e other in
-    n.no_break term position.offset b.front b.holds

@@ -1,8 +1,9 @@
 //! Definitions of terms in the External Term Format, which the crates above cite: what bytes mean, the canonical
 //! spelling of a term, what is passed over, and what a feed of spellings shows and answers. Beside them stand the types
-//! that they name: `EtfFault`, and `Fed`, which both feeds of terms answer.
+//! that they name, `EtfFault` and `Fed`, and the numbers of tags.
 //!
-//! It stands on `dets_term`, promises laws of these definitions, and compares them with worked rows.
+//! It stands on `dets_term`, promises laws of these definitions, and compares them with worked rows. What bytes mean is in
+//! `specs/Spelling.antt`, put together by `specs/Format.antt`.
 #![tactic(auto)]
 
 pub use fault::EtfFault;
