@@ -21,9 +21,6 @@ pub use std::alloc::AllocError as Memory;
 use std::process::ExitCode;
 pub use words::Words;
 
-#[cfg(test)]
-mod tests;
-
 fn main(rt: HostRuntime) -> ExitCode {
     ExitCode::from(program::run_program(&rt))
 }

@@ -1,189 +1,99 @@
-use crate::{Memory, Status, Words, dets_main};
+//! What no clause says: that calls succeed where memory is there, and what the clauses come to at small values.
+use crate::{Memory, Words, dets_main};
 use host_model::{MemHost, MemSource};
 use std::alloc::Global;
 use std::test::Fail;
 
+/// A run of the program: its words, its input, how many bytes a read gives at most, and the reads and puts that fail.
+type Run<'a> = (&'a [&'a str], &'a [u8], usize, &'a [u64], &'a [u64]);
+
+/// The line of the status that a run ends with, and what it said.
+fn outcome(alloc: Global, run: Run<'_>) -> Result<(Vec<u8>, Vec<u8>), Memory> {
+    let (word_list, input, most, failing_reads, failing_puts) = run;
+    let mut words = Words::new(alloc);
+    for word in word_list {
+        words.push(word)?;
+    }
+    let mut source = MemSource::new(alloc, input, most.max(1), failing_reads)?;
+    let mut host = MemHost::new(alloc, &[], failing_puts)?;
+    let status = dets_main(alloc, &words, &mut source, &mut host);
+    let line = status.line(alloc)?;
+    Ok((
+        Vec::from_slice(alloc, line.as_slice())?,
+        Vec::from_slice(alloc, host.said())?,
+    ))
+}
+
+const RUN: &[&str] = &["run", "t"];
+
 const PLAIN: &[u8] = b"{c,open,[]}. {c,insert,{k,1}}. {c,lookup,k}.\n";
+
+const SYNC_IS_NEXT: &[u8] = b"{c,open,[]}. {c,insert,{k,1}}. {c,lookup,k}. {c,sync}. {c,lookup,k}.";
+
+const FLOAT_IS_NEXT: &[u8] = b"{c,open,[]}.\n{c,insert,{k,1.5}}.\n";
+
+const FIRST_REPLY: &[u8] = b"{ok,table}.\n";
+
+const TWO_REPLIES: &[u8] = b"{ok,table}.\nok.\n";
 
 const PLAIN_REPLIES: &[u8] = b"{ok,table}.\nok.\n[{k,1}].\n";
 
-/// A run of the program: its words, its input, and where its devices fail.
-#[derive(Clone, Copy)]
-struct Run<'a> {
-    words: &'a [&'a str],
-    input: &'a [u8],
-    /// How many bytes a read gives at most.
-    most: usize,
-    failing_reads: &'a [u64],
-    failing_puts: &'a [u64],
-}
+const SOURCE_FAULT: &[u8] = b"dets_tool: source fault\n";
 
-fn plain_run() -> Run<'static> {
-    Run {
-        words: &["run", "t"],
-        input: PLAIN,
-        most: 4096,
-        failing_reads: &[],
-        failing_puts: &[],
-    }
-}
+const OUTPUT_FAULT: &[u8] = b"dets_tool: output fault\n";
 
-/// How a run ends, and what it says.
-fn outcome(alloc: Global, run: &Run<'_>) -> Result<(Status, Vec<u8>), Memory> {
-    let mut words = Words::new(alloc);
-    for word in run.words {
-        words.push(word)?;
-    }
-    let mut source = MemSource::new(alloc, run.input, run.most.max(1), run.failing_reads)?;
-    let mut host = MemHost::new(alloc, &[], run.failing_puts)?;
-    let status = dets_main(alloc, &words, &mut source, &mut host);
-    if host.starved() {
-        return Err(Memory);
-    }
-    let said = Vec::from_slice(alloc, host.said())?;
-    Ok((status, said))
-}
+const WORDS_REFUSED: &[u8] = b"dets_tool: words refused\n";
+
+const NOT_YET_AT_1: &[u8] = b"dets_tool: not yet at command 1\n";
+
+const NOT_YET_AT_3: &[u8] = b"dets_tool: not yet at command 3\n";
 
 #[test]
-fn a_set_is_opened_filled_and_looked_up(rt: HostRuntime) -> Result<(), Fail> {
-    for most in [1, 2, 3, 4, 5, 6, 7, 4096] {
-        let (status, said) = outcome(
-            rt.alloc(),
-            &Run {
-                most,
-                ..plain_run()
-            },
-        )?;
-        assert!(rt; matches!(status, Status::Done), "in pieces of {most}");
-        assert_eq!(rt; said.as_slice(), PLAIN_REPLIES, "in pieces of {most}");
-    }
-    Ok(())
-}
-
-#[test]
-fn a_command_that_is_not_built_ends_the_run(rt: HostRuntime) -> Result<(), Fail> {
-    for most in [1, 4096] {
-        let input = b"{c,open,[]}. {c,insert,{k,1}}. {c,lookup,k}. {c,sync}. {c,lookup,k}.";
-        let (status, said) = outcome(
-            rt.alloc(),
-            &Run {
-                input,
-                most,
-                ..plain_run()
-            },
-        )?;
-        assert!(rt; matches!(status, Status::NotYet(3)));
-        assert_eq!(rt; said.as_slice(), PLAIN_REPLIES);
-    }
-    let input = b"{c,open,[]}.\n{c,insert,{k,1.5}}.\n";
-    let (status, said) = outcome(
-        rt.alloc(),
-        &Run {
-            input,
-            ..plain_run()
-        },
-    )?;
-    assert!(rt; matches!(status, Status::NotYet(1)));
-    assert_eq!(rt; said.as_slice(), b"{ok,table}.\n".as_slice());
-    Ok(())
-}
-
-#[test]
-fn an_empty_script_says_nothing(rt: HostRuntime) -> Result<(), Fail> {
-    let (status, said) = outcome(
-        rt.alloc(),
-        &Run {
-            input: b"",
-            ..plain_run()
-        },
-    )?;
-    assert!(rt; matches!(status, Status::Done));
-    assert_eq!(rt; said.as_slice(), b"".as_slice());
-    Ok(())
-}
-
-#[test]
-fn other_words_are_refused(rt: HostRuntime) -> Result<(), Fail> {
-    let refused: [&[&str]; 4] = [
-        &["frob", "t"],
-        &["run"],
-        &["run", "-t"],
-        &["load", "t", "set", "0"],
+fn runs_end_as_stated(rt: HostRuntime) -> Result<(), Fail> {
+    let rows: [(Run<'_>, &[u8], &[u8]); 17] = [
+        // the plain path, in pieces
+        ((RUN, PLAIN, 1, &[], &[]), b"", PLAIN_REPLIES),
+        ((RUN, PLAIN, 2, &[], &[]), b"", PLAIN_REPLIES),
+        ((RUN, PLAIN, 7, &[], &[]), b"", PLAIN_REPLIES),
+        ((RUN, PLAIN, 4096, &[], &[]), b"", PLAIN_REPLIES),
+        ((RUN, b"", 4096, &[], &[]), b"", b""),
+        // a command and a text that are not built
+        (
+            (RUN, SYNC_IS_NEXT, 1, &[], &[]),
+            NOT_YET_AT_3,
+            PLAIN_REPLIES,
+        ),
+        (
+            (RUN, SYNC_IS_NEXT, 4096, &[], &[]),
+            NOT_YET_AT_3,
+            PLAIN_REPLIES,
+        ),
+        (
+            (RUN, FLOAT_IS_NEXT, 4096, &[], &[]),
+            NOT_YET_AT_1,
+            FIRST_REPLY,
+        ),
+        // words that are no job: nothing is read or said
+        ((&["run"], PLAIN, 4096, &[0], &[0]), WORDS_REFUSED, b""),
+        (
+            (&["frob", "t"], PLAIN, 4096, &[0], &[0]),
+            WORDS_REFUSED,
+            b"",
+        ),
+        // each read fails in turn; a first one of 13 bytes gives the first command
+        ((RUN, PLAIN, 4096, &[0], &[]), SOURCE_FAULT, b""),
+        ((RUN, PLAIN, 4096, &[1], &[]), SOURCE_FAULT, PLAIN_REPLIES),
+        ((RUN, PLAIN, 13, &[1], &[]), SOURCE_FAULT, FIRST_REPLY),
+        // each put fails in turn; three replies are three puts
+        ((RUN, PLAIN, 4096, &[], &[0]), OUTPUT_FAULT, b""),
+        ((RUN, PLAIN, 4096, &[], &[1]), OUTPUT_FAULT, FIRST_REPLY),
+        ((RUN, PLAIN, 4096, &[], &[2]), OUTPUT_FAULT, TWO_REPLIES),
+        ((RUN, PLAIN, 4096, &[], &[3]), b"", PLAIN_REPLIES),
     ];
-    for words in refused {
-        let (status, said) = outcome(
-            rt.alloc(),
-            &Run {
-                words,
-                ..plain_run()
-            },
-        )?;
-        assert!(rt; matches!(status, Status::WordsRefused));
-        assert_eq!(rt; said.as_slice(), b"".as_slice());
-        let (status, _) = outcome(
-            rt.alloc(),
-            &Run {
-                words,
-                failing_reads: &[0],
-                failing_puts: &[0],
-                ..plain_run()
-            },
-        )?;
-        assert!(rt; matches!(status, Status::WordsRefused));
-    }
-    Ok(())
-}
-
-#[test]
-fn the_replies_before_a_put_that_fails_are_said(rt: HostRuntime) -> Result<(), Fail> {
-    let rows: [(&[u64], &[u8]); 3] = [
-        (&[0], b""),
-        (&[1], b"{ok,table}.\n"),
-        (&[2], b"{ok,table}.\nok.\n"),
-    ];
-    for (failing_puts, before) in rows {
-        let (status, said) = outcome(
-            rt.alloc(),
-            &Run {
-                failing_puts,
-                ..plain_run()
-            },
-        )?;
-        assert!(rt; matches!(status, Status::Output));
-        assert_eq!(rt; said.as_slice(), before);
-    }
-    // Three replies are three puts, and nothing else is said.
-    let (status, said) = outcome(
-        rt.alloc(),
-        &Run {
-            failing_puts: &[3],
-            ..plain_run()
-        },
-    )?;
-    assert!(rt; matches!(status, Status::Done));
-    assert_eq!(rt; said.as_slice(), PLAIN_REPLIES);
-    Ok(())
-}
-
-#[test]
-fn the_commands_before_a_read_that_fails_are_replied_to(rt: HostRuntime) -> Result<(), Fail> {
-    // The whole script comes in one read, and in pieces of 13 bytes the first command does.
-    let rows: [(usize, &[u64], &[u8]); 3] = [
-        (4096, &[0], b""),
-        (4096, &[1], PLAIN_REPLIES),
-        (13, &[1], b"{ok,table}.\n"),
-    ];
-    for (most, failing_reads, before) in rows {
-        let (status, said) = outcome(
-            rt.alloc(),
-            &Run {
-                most,
-                failing_reads,
-                ..plain_run()
-            },
-        )?;
-        assert!(rt; matches!(status, Status::SourceFault));
-        assert_eq!(rt; said.as_slice(), before);
+    for (run, line, said) in rows {
+        let told = outcome(rt.alloc(), run)?;
+        assert_eq!(rt; told.0.as_slice(), line);
+        assert_eq!(rt; told.1.as_slice(), said);
     }
     Ok(())
 }
