@@ -1,0 +1,46 @@
+//! Why a line has no better answer.
+
+use dets_machine::Stop;
+use dets_term::{Memory, TermFault};
+use etf_codec::EtfFault;
+use hex::FromHexError;
+use host_model::{DiskFailed, OutFailed, SourceFailed};
+use std::num::ParseIntError;
+use term_text::TextFault;
+use thiserror::Error;
+
+/// What is answered in the place of a value.
+#[derive(Debug, Drop, Error)]
+pub enum Fault {
+    /// The line is none of the language.
+    #[error("bad line")]
+    BadLine,
+    #[error("out of memory")]
+    Memory(#[from(alloc)] Memory),
+    #[error("{0:?}")]
+    Term(#[from] TermFault),
+    #[error("{0:?}")]
+    Spelling(#[from] EtfFault),
+    #[error("{0:?}")]
+    Text(#[from] TextFault),
+    #[error("{0:?}")]
+    Machine(#[from] Stop),
+    #[error("failed")]
+    Disk(#[from] DiskFailed),
+    #[error("failed")]
+    Output(#[from] OutFailed),
+    #[error("failed")]
+    Source(#[from] SourceFailed),
+}
+
+impl From<FromHexError> for Fault {
+    fn from(_error: FromHexError) -> Fault {
+        Fault::BadLine
+    }
+}
+
+impl From<ParseIntError> for Fault {
+    fn from(_error: ParseIntError) -> Fault {
+        Fault::BadLine
+    }
+}
