@@ -13,5 +13,3 @@ mod command;
 mod machine;
 mod reply;
 mod table;
-#[cfg(test)]
-mod tests;

@@ -25,6 +25,4 @@ mod order;
 mod pair_list;
 mod term;
 mod term_list;
-#[cfg(test)]
-mod tests;
 mod text;

@@ -152,6 +152,3 @@ fn cmp_bytes(bytes: &[u8], others: &[u8]) -> Ordering
 {
     bytes.cmp(others)
 }
-
-#[cfg(test)]
-mod tests;

@@ -1,18 +1,17 @@
 -- What a feed of spellings keeps where it reads on.
-use Rattle.std.proofs.Common.{◌≡◌, ◌≢◌, ◌⊎◌, ℕ, ◌+◌, ◌-◌, ◌<◌, ◌≤◌, ◌^◌, true, List, [], ◌++◌, length, take, drop, min, Option, Some, None, Result, Ok, Err}
+use Rattle.std.proofs.Common.{◌≡◌, ◌≢◌, ◌⊎◌, ℕ, ◌+◌, ◌-◌, ◌<◌, ◌≤◌, ◌^◌, true, List, [], ◌++◌, length, take, drop, min, None, Result, Ok, Err}
 use Rattle.std.proofs.Common.{refl, ap, sym, ◌∙◌, subst, inl, inr, arith, append_assoc, length-append}
-use Rattle.std.proofs.lemmas.List.{take_all, take_min, take_at, take-append-le, take-append-drop, length-take, length-take-le, length-drop}
+use Rattle.std.proofs.lemmas.List.{take_all, take_min, take_at, take-append-le, take-append-drop, length-take, length-take-le}
 use Rattle.std.proofs.Math.Seq.{take-add}
 use Rattle.dets_term.specs.TermValue.{TermValue}
 use Rattle.etf_model.specs.declared.fault.EtfFault.{EtfFault}
 use Rattle.etf_model.specs.declared.fault.EtfFault.TheVariants.{Short, LongTerm, Memory}
 use Rattle.etf_model.specs.declared.fed.Fed.{Fed}
-use Rattle.etf_model.specs.declared.fed.Fed.TheVariants.{Term, Again, End}
 use Rattle.etf_model.specs.Format.{Position}
 use Rattle.etf_model.specs.Exact.{Between}
 use Rattle.etf_model.specs.Answers.{IsFront, Answers}
 use Rattle.etf_model.specs.Spelling.{spelling, IsPart}
-use Rattle.etf_model.specs.SpellingFeed.{SpellingFeed, total, longest, front_of, passed, failed}
+use Rattle.etf_model.specs.SpellingFeed.{SpellingFeed, longest, front_of, failed}
 use Rattle.etf_model.specs.Next.{Gives, gives_behind, IsNext}
 use Rattle.etf_model.specs.SpellingExact.{spelling-exact, spelling_lacks_long}
 use Rattle.etf_codec.specs.declared.term_reader.TermReader.{TermReader}
@@ -169,27 +168,3 @@ gives_short old new answer finished some few part kept same =
 -- where no fault came yet
 pub gives_first : (old new : SpellingFeed) (answer : Result Fed EtfFault) → old.fault ≡ None → Gives old new answer → IsNext old new answer
 gives_first old new answer none gives = subst (λ fault. gives_behind fault old new answer) (sym none) gives
-
--- ---- what stays the same
-
-taken_kept : (s : SpellingFeed) (t : TermValue) (count : ℕ) → IsFront spelling (front_of s) t count → total (passed s count) ≡ total s
-taken_kept s t count front = omega (arith, front.fits, length-take longest s.left, length-drop count s.left)
-
-gives_kept : (old new : SpellingFeed) (answer : Result Fed EtfFault) → Gives old new answer → (total new ≡ total old) × (new.finished ≡ old.finished)
-gives_kept old new (Ok (Term t)) g =
-    (ap (λ (s : SpellingFeed). total s) g.2 ∙ taken_kept old t g.0 g.1, ap (λ (s : SpellingFeed). s.finished) g.2)
-gives_kept old new (Ok Again) g = (ap (λ (s : SpellingFeed). total s) g.3, ap (λ (s : SpellingFeed). s.finished) g.3)
-gives_kept old new (Ok End) g = (ap (λ (s : SpellingFeed). total s) g.2, ap (λ (s : SpellingFeed). s.finished) g.2)
-gives_kept old new (Err Short) g = (ap (λ (s : SpellingFeed). total s) g.4, ap (λ (s : SpellingFeed). s.finished) g.4)
-gives_kept old new (Err (LongTerm at)) g = (ap (λ (s : SpellingFeed). total s) g.3, ap (λ (s : SpellingFeed). s.finished) g.3)
-gives_kept old new (Err Memory) g = (ap (λ (s : SpellingFeed). total s) g, ap (λ (s : SpellingFeed). s.finished) g)
-gives_kept old new (Err fault) g = (ap (λ (s : SpellingFeed). total s) g.1, ap (λ (s : SpellingFeed). s.finished) g.1)
-
-behind_kept : (fault : Option EtfFault) (old new : SpellingFeed) (answer : Result Fed EtfFault) → gives_behind fault old new answer
-    → (total new ≡ total old) × (new.finished ≡ old.finished)
-behind_kept None old new answer g = gives_kept old new answer g
-behind_kept (Some fault) old new answer g = (ap (λ (s : SpellingFeed). total s) g.1, ap (λ (s : SpellingFeed). s.finished) g.1)
-
--- no answer loses a byte, or ends the input
-pub next_kept : (old new : SpellingFeed) (answer : Result Fed EtfFault) → IsNext old new answer → (total new ≡ total old) × (new.finished ≡ old.finished)
-next_kept old new answer g = behind_kept old.fault old new answer g

@@ -21,6 +21,3 @@ pub fn decode(alloc: Global, bytes: &[u8]) -> Result<(Term, usize), EtfFault>
     let term = reader.read(alloc, &mut cursor)?;
     Ok((term, cursor.offset() as usize))
 }
-
-#[cfg(test)]
-mod tests;

@@ -224,6 +224,3 @@ fn encode_string(out: &mut ByteList, parts: &TermList) -> Result<(), Memory>
     }
     Ok(())
 }
-
-#[cfg(test)]
-mod tests;

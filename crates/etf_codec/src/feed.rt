@@ -153,6 +153,3 @@ impl TermFeed {
         fault
     }
 }
-
-#[cfg(test)]
-mod tests;

@@ -11,9 +11,6 @@ use etf_model::tags::{
     SMALL_BIG, SMALL_INTEGER, SMALL_TUPLE, STRING, V4_PORT,
 };
 
-#[cfg(test)]
-mod tests;
-
 /// How many levels a term that is passed over has at most.
 const MAX_LEVELS: u32 = 256;
 

@@ -3,7 +3,7 @@ use Rattle.std.proofs.Common.{◌≡◌, ◌<◌, ◌≤◌, ◌+◌, ◌∙◌,
 use Rattle.std.proofs.lemmas.List.{map-append, reverse-append, take_more, take-append-drop}
 use Rattle.std.proofs.lemmas.Bool.{and_from, and_parts, le-leb, leb-true}
 use Rattle.host_model.specs.Disk.{written_at}
-use Rattle.host_model.specs.Calls.{Call, file_after, said_after, is_possible}
+use Rattle.host_model.specs.Calls.{Call, file_after, is_possible}
 use Rattle.host_model.specs.Calls.Call.{Wrote, Synced, Put}
 use Rattle.host_model.specs.CallLaws.{file_bytes}
 use Rattle.host_model.specs.Log.{newest_first, call_of}

@@ -1,10 +1,10 @@
 -- Writes that are made one by one.
-use Rattle.std.proofs.Common.{◌≡◌, ◌≤◌, ◌<◌, ◌+◌, ◌∙◌, ℕ, List, [], length, get_or, take, Option, Some, None, option_map, slice_get, refl, sym, ap, subst, arith}
+use Rattle.std.proofs.Common.{◌≡◌, ◌≤◌, ◌<◌, ◌+◌, ◌∙◌, ℕ, List, [], length, get_or, take, Option, Some, None, option_map, slice_get, refl, sym, ap, subst}
 use Rattle.std.proofs.lemmas.Option.{slice_get-get_or, same_Some}
-use Rattle.host_model.specs.Disk.{range, DiffersIn, written_at, WhereTold, Changes}
+use Rattle.host_model.specs.Disk.{range, DiffersIn, written_at, WhereTold}
 use Rattle.host_model.specs.Host.{Shown}
 use Rattle.host_model.specs.Tearing.{Tearing, IsWithin, told_before}
-use Rattle.host_model.specs.Writes.{Write, ranges_of, with_write, with_writes, BeginInside}
+use Rattle.host_model.specs.Writes.{Write, ranges_of, with_writes, BeginInside}
 use Rattle.host_model.specs.WritesLaws.{range_within, begins_inside, with_writes-more}
 
 -- the i-th of the writes has this place and these bytes

@@ -8,7 +8,7 @@ use Rattle.std.proofs.Math.Bool.{and-true}
 use Rattle.host_model.specs.Counts.{count_fits}
 use Rattle.host_model.specs.Disk.{are_bytes, range, in_doubt, furthest, DiffersIn, IsImage}
 use Rattle.host_model.specs.Torn.{length-written_at, DiffersIn-written, DiffersIn-refl, DiffersIn-more, untouched, torn_last, are_bytes-written_at, is_in-false}
-use Rattle.host_model.specs.Host.{Left, Shown, IsCoherent, IsGrown, Tears, Stays, Says, Reached, Rests, Goes}
+use Rattle.host_model.specs.Host.{Left, IsCoherent, IsGrown, Tears, Stays, Says, Reached, Goes}
 use Rattle.host_model.specs.Calls.{Call, file_after, said_after, synced_after, unsynced, is_possible, LeftAfter, LeftSince}
 use Rattle.host_model.specs.Calls.Call.{Wrote, Synced, Put}
 use Rattle.host_model.specs.MemHost.{MemHostState, shown_of, host_after, file_of}

@@ -1,5 +1,5 @@
 -- What a run of calls on a file leaves, where only the image matters. All of it is this project's own.
-use Rattle.std.specs.Prelude.{◌≡◌, ◌⊎◌, ℕ, Bool, List, [], Option, Some, IsTrue}
+use Rattle.std.specs.Prelude.{◌≡◌, ◌⊎◌, ℕ, Bool, List, [], Some, IsTrue}
 use Rattle.std.proofs.Common.{◌∙◌}
 use Rattle.host_model.specs.Disk.{Range, IsImage, WhereTold, Changes}
 use Rattle.host_model.specs.Host.{Left, Shown, IsCoherent, Settled, TearsIn, Reached, LeavesOnly}

@@ -1,5 +1,5 @@
 -- What a run of calls leaves at a stop: how calls compose. All of it is this project's own.
-use Rattle.std.specs.Prelude.{◌≡◌, ◌++◌, ◌⊎◌, ℕ, List, Some}
+use Rattle.std.specs.Prelude.{◌≡◌, ◌⊎◌, ℕ, List, Some}
 use Rattle.std.proofs.Common.{arith, sym, ◌∙◌, refl, subst, inl, inr, ⊎_elim}
 use Rattle.host_model.specs.Disk.{Range, IsImage}
 use Rattle.host_model.specs.Host.{Left, Shown, IsCoherent, Settled, Reached, TearsIn, Stays, Says, Rests, Goes, LeavesOnly}

@@ -1,5 +1,5 @@
 -- The one pair of a moment that a restart takes. All of it is this project's own.
-use Rattle.std.specs.Prelude.{◌≡◌, ◌<◌, ℕ, ◌/◌, ◌%◌, ◌^◌, ◌==◌, ◌++◌, nat_lt, List, [], ◌∷◌, map, length, slice_index, Option, Some, None, if◌then◌else◌}
+use Rattle.std.specs.Prelude.{ℕ, ◌/◌, ◌%◌, ◌^◌, ◌==◌, ◌++◌, nat_lt, List, [], ◌∷◌, map, length, slice_index, Option, Some, None, if◌then◌else◌}
 use Rattle.std.specs.List.{range_with_len}
 use Rattle.host_model.specs.Disk.{Range, in_doubt, furthest}
 use Rattle.host_model.specs.Host.{Left}

@@ -1,5 +1,5 @@
 -- Writes within some ranges since a start, which no sync has followed yet. All of it is this project's own.
-use Rattle.std.specs.Prelude.{◌≡◌, ◌≤◌, ◌+◌, ◌⊎◌, ℕ, false, List, ◌∷◌, [], length, Option, Some, None, option_map}
+use Rattle.std.specs.Prelude.{◌≡◌, ◌≤◌, ◌+◌, ℕ, false, List, ◌∷◌, [], length, Option, Some, None, option_map}
 use Rattle.std.proofs.Common.{arith, sym, ap, ◌∙◌, refl, subst}
 use Rattle.host_model.specs.Disk.{Range, range, is_in, in_doubt, furthest, DiffersIn, written_at, WhereTold, Changes}
 use Rattle.host_model.specs.Torn.{alone, DiffersIn-refl, DiffersIn-written}

@@ -3,13 +3,12 @@ use Rattle.std.specs.Prelude.{◌≡◌, ◌≤◌, ◌<◌, ◌+◌, ◌-◌, �
 use Rattle.std.specs.List.{range_with_len}
 use Rattle.std.proofs.Common.{arith, sym, ap, ◌∙◌, refl, subst, inl, inr, ⊎_elim, length-append, length-take, length-drop}
 use Rattle.std.proofs.lemmas.Grind.{common_steps}
-use Rattle.std.proofs.lemmas.Bool.{ltb-true, ltb-false, leb-true, leb-false, lt-ltb, le-ltb, le-leb, lt-leb, and_cases, and_from, or_parts, cond-true, cond-false, and_left, and_right, and_parts, cases_lt, cases_Bool}
+use Rattle.std.proofs.lemmas.Bool.{ltb-true, ltb-false, leb-true, leb-false, lt-ltb, le-ltb, lt-leb, and_cases, and_from, or_parts, cond-true, cond-false, and_left, and_right, and_parts, cases_lt, cases_Bool}
 use Rattle.std.proofs.lemmas.Option.{slice_get-get_or, slice_get_past, slice_get_within, get_or_from_slice_get}
 use Rattle.std.proofs.lemmas.List.{ext_get_or, get_or-take, get_or-drop, take-append-drop}
-use Rattle.std.proofs.Common.{add-zero}
 use Rattle.std.proofs.lemmas.List.Folds.{list_all-append}
 use Rattle.std.proofs.lemmas.List.FromFn.{length-map-range_with_len, get_or-map-range_with_len}
-use Rattle.std.proofs.Math.Bool.{or-false, false-or, or_assoc}
+use Rattle.std.proofs.Math.Bool.{or-false}
 use Rattle.host_model.specs.Disk.{are_bytes, written_at, Range, range, is_in, in_doubt, furthest, DiffersIn}
 
 -- Where two lists agree at a place, and the first has it, both have the same there.

@@ -1,9 +1,8 @@
 -- A host that does not tell its stops.
 use Rattle.std.specs.Prelude.{ℕ, false, List, Option}
-use Rattle.std.proofs.Common.{arith, refl}
 use Rattle.std.proofs.lemmas.Bool.{false≢true}
 use Rattle.host_model.specs.Counts.{counted, count_fits}
-use Rattle.host_model.specs.Host.{Left, Shown, IsCoherent, Goes}
+use Rattle.host_model.specs.Host.{Shown, IsCoherent}
 
 -- what it shows: its file and its output where it tells them, and its counts of faults
 abbrev pub without_stops : Option (List ℕ) → Option (List ℕ) → ℕ → ℕ → Shown

@@ -1,10 +1,10 @@
 -- Lemmas on writes one after another: what they change, how long the file is then, and what reads back.
-use Rattle.std.specs.Prelude.{◌≡◌, ◌≤◌, ◌<◌, ◌+◌, ◌-◌, ◌⊎◌, ℕ, zero, suc, false, max, List, [], ◌∷◌, length, take, drop, slice_range, get_or, Option, Some, None, option_map}
-use Rattle.std.proofs.Common.{arith, sym, ap, ◌∙◌, refl, ⊎_elim, length-take, length-drop}
+use Rattle.std.specs.Prelude.{◌≡◌, ◌≤◌, ◌<◌, ◌+◌, ◌-◌, ℕ, zero, suc, false, max, List, [], ◌∷◌, length, take, drop, slice_range, get_or}
+use Rattle.std.proofs.Common.{arith, ap, ◌∙◌, refl, ⊎_elim, length-take, length-drop}
 use Rattle.std.proofs.lemmas.Bool.{or_parts}
 use Rattle.std.proofs.lemmas.List.{ext_get_or, get_or-take, get_or-drop}
 use Rattle.std.proofs.lemmas.List.Sums.{fold_more}
-use Rattle.host_model.specs.Disk.{Range, range, in_doubt, furthest, DiffersIn, written_at, WhereTold}
+use Rattle.host_model.specs.Disk.{Range, in_doubt, furthest, DiffersIn, written_at}
 use Rattle.host_model.specs.Torn.{alone, or_falses, is_in-below, is_in-above, length-written_at, get_or-written_in, DiffersIn-written, DiffersIn-refl, outside_ranges}
 use Rattle.host_model.specs.Tearing.{IsWithin}
 use Rattle.host_model.specs.Writes.{Write, end_of, range_of, ranges_of, with_write, with_writes, BeginInside, LieInside, IsApart, AreApart, ReadBack}

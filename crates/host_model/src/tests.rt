@@ -1,66 +1,14 @@
-// What no clause says: that each call succeeds with ample memory, and what the real ends make of a reader or a
-// writer that fails in mid-stream.
+// What no clause and no stored case says: what the real ends make of a reader or a writer that fails in the middle, and
+// that a real file is made, written and read back.
 use crate::file_host::write_piece;
-use crate::{
-    FileHost, Host, MemHost, MemSource, Memory, OutFailed, Source, SourceFailed, StdSource,
-};
-use std::alloc::{Allocator, Global};
-use std::io;
+use crate::real_file::read_full;
+use crate::{DiskFailed, FileHost, Host, OutFailed, Source, SourceFailed, StdSource};
+use std::alloc::Allocator;
 use std::io::{BufRead, ErrorKind, Lines, Read, Write};
 use std::test::Fail;
+use std::{fs, io};
 
-mod hosts;
-
-// What six reads gave: the bytes, `.` for 0 and `!` for a failure, each with a space behind it.
-fn six_reads<S: Source>(alloc: Global, source: &mut S) -> Result<Vec<u8>, Memory> {
-    let mut told = Vec::new(alloc);
-    for _ in 0..6u8 {
-        let mut buf = [0; 8];
-        match source.read(&mut buf) {
-            Ok(0) => told.push(b'.')?,
-            Ok(n) => told.extend_from_slice(&buf[..n])?,
-            Err(SourceFailed) => told.push(b'!')?,
-        }
-        told.push(b' ')?;
-    }
-    Ok(told)
-}
-
-#[test]
-fn a_source_in_memory_gives_pieces_and_fails_where_it_was_told(
-    rt: HostRuntime,
-) -> Result<(), Fail> {
-    let alloc = rt.alloc();
-    let mut ones = MemSource::new(alloc, b"abc", 1, &[2, 0])?;
-    assert_eq!(rt;
-        six_reads(alloc, &mut ones)?.as_slice(),
-        b"! a ! b c . ".as_slice()
-    );
-    let mut fours = MemSource::new(alloc, b"abcdefghij", 4, &[1])?;
-    assert_eq!(rt;
-        six_reads(alloc, &mut fours)?.as_slice(),
-        b"abcd ! efgh ij . . ".as_slice()
-    );
-    Ok(())
-}
-
-#[test]
-fn a_host_in_memory_says_what_is_put_and_fails_where_it_was_told(
-    rt: HostRuntime,
-) -> Result<(), Fail> {
-    let alloc = rt.alloc();
-    let mut host = MemHost::new(alloc, b"file", &[1])?;
-    assert_eq!(rt; host.put(b"ab"), Ok(()));
-    assert_eq!(rt; host.put(b"cd"), Err(OutFailed));
-    assert_eq!(rt; host.said(), b"ab".as_slice());
-    assert_eq!(rt; host.put(b"ef"), Ok(()));
-    assert_eq!(rt; host.said(), b"abef".as_slice());
-    assert_eq!(rt; host.file(), b"file".as_slice());
-    assert!(rt; !host.starved());
-    Ok(())
-}
-
-// A runtime whose input is interrupted, gives a piece, fails, gives another piece and then ends.
+// A runtime whose input is interrupted, gives two bytes, fails, gives two bytes more and then ends.
 #[derive(Clone, Copy)]
 struct Uneven;
 
@@ -107,14 +55,19 @@ impl BufRead for UnevenReader {
 }
 
 #[test]
-fn standard_input_goes_on_after_an_interruption_and_after_a_fault(
-    rt: HostRuntime,
-) -> Result<(), Fail> {
+fn a_source_and_a_buffer_go_on_after_an_interruption(rt: HostRuntime) -> Result<(), Fail> {
     let mut source = StdSource::new(&Uneven)?;
-    assert_eq!(rt;
-        six_reads(rt.alloc(), &mut source)?.as_slice(),
-        b"ab ! cd . . . ".as_slice()
-    );
+    let mut buf = [0; 8];
+    for answer in [Ok(2), Err(SourceFailed), Ok(2), Ok(0)] {
+        assert_eq!(rt; source.read(&mut buf), answer);
+    }
+    assert_eq!(rt; buf, *b"cd\0\0\0\0\0\0");
+    let mut reader = Uneven.reader();
+    let mut pair = [0; 2];
+    assert_eq!(rt; read_full(&mut reader, &mut pair), Ok(()));
+    assert_eq!(rt; pair, *b"ab");
+    assert_eq!(rt; read_full(&mut reader, &mut pair), Err(DiskFailed));
+    assert_eq!(rt; read_full(&mut reader, &mut [0; 3]), Err(DiskFailed));
     Ok(())
 }
 
@@ -164,9 +117,24 @@ fn a_piece_is_written_on_and_stops_at_a_write_that_takes_nothing(
 }
 
 #[test]
-fn the_real_ends_are_made(rt: HostRuntime) -> Result<(), Fail> {
-    let mut host = FileHost::new(&rt, rt.alloc(), Some("table"))?;
-    assert_eq!(rt; host.put(b""), Ok(()));
-    let _ = StdSource::new(&rt)?;
+fn a_real_file_is_made_written_and_read_back(rt: HostRuntime) -> Result<(), Fail> {
+    let name = "host_model_real_file";
+    let _ = fs::remove_file(&rt, name);
+    let mut host = FileHost::new(&rt, rt.alloc(), Some(name))?;
+    assert_eq!(rt; host.len(), Ok(0));
+    assert_eq!(rt; host.sync(), Ok(()));
+    assert_eq!(rt; host.read_at(0, &mut [0]), Err(DiskFailed));
+    assert_eq!(rt; host.write_at(0, b"abcdef"), Ok(()));
+    assert_eq!(rt; host.write_at(6, b"ghij"), Ok(()));
+    assert_eq!(rt; host.sync(), Ok(()));
+    assert_eq!(rt; host.write_at(2, b"XY"), Ok(()));
+    assert_eq!(rt; host.len(), Ok(10));
+    assert_eq!(rt; host.read_at(4, &mut [0; 7]), Err(DiskFailed));
+    let mut again = FileHost::new(&rt, rt.alloc(), Some(name))?;
+    let mut buf = [0; 10];
+    assert_eq!(rt; again.read_at(0, &mut buf), Ok(()));
+    assert_eq!(rt; buf, *b"abXYefghij");
+    assert_eq!(rt; again.put(b"a piece of output\n"), Ok(()));
+    fs::remove_file(&rt, name)?;
     Ok(())
 }

@@ -1,5 +1,5 @@
 -- Terms in brackets are within their limits.
-use Rattle.std.proofs.Common.{◌≡◌, ℕ, ◌<◌, ◌≤◌, ◌^◌, Result, IfErr, List, length, ◌∙◌, arith}
+use Rattle.std.proofs.Common.{◌≡◌, ◌<◌, ◌≤◌, ◌^◌, Result, IfErr, List, length, ◌∙◌, arith}
 use Rattle.dets_term.specs.declared.TermFault.{TermFault}
 use Rattle.dets_term.specs.declared.TermFault.TheVariants.{Memory}
 use Rattle.dets_term.specs.TermValue.{TermValue, chain, nil, parts_depth}

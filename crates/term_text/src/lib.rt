@@ -24,11 +24,7 @@ mod laws;
 mod name;
 mod nest;
 mod print_bits;
-#[cfg(test)]
-mod print_tests;
 mod printed_laws;
 mod printing;
 mod reader;
 pub mod rows;
-#[cfg(test)]
-mod tests;
