@@ -35,7 +35,7 @@ trait Feed: Drop {
 }
 
 impl Feed for TermFeed {
-    ghost use Rattle.etf_model.specs.FeedState.{total};
+    ghost use Rattle.etf_model.specs.SpellingFeed.{total};
 
     ghost fed = { total };
 
