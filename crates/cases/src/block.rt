@@ -5,7 +5,7 @@ use crate::hosts::Hosts;
 use crate::line::Line;
 use crate::shown::answer_text;
 use crate::spellings::Reading;
-use crate::{feeds, lists, machines, sources, spellings, terms};
+use crate::{lists, machines, sources, spellings, streams, terms};
 use dets_term::{Memory, TermList};
 use std::alloc::Global;
 
@@ -14,8 +14,7 @@ pub fn answers(alloc: Global, input: &str) -> Result<String, Memory> {
     let mut answers = String::new(alloc);
     let mut block = Block::new(alloc);
     for line in input.lines() {
-        answers.push_str(&block.answer(line)?)?;
-        answers.push('\n')?;
+        block.answer(line, &mut answers)?;
     }
     Ok(answers)
 }
@@ -37,13 +36,15 @@ impl Block {
         }
     }
 
-    /// The answer to a line. A heading or a blank line is answered as it is, and begins a new block.
-    fn answer(&mut self, line: &str) -> Result<String, Memory> {
+    /// Answers a line on a line. A heading or a blank line is answered as it is, and begins a new block.
+    fn answer(&mut self, line: &str, answers: &mut String) -> Result<(), Memory> {
         if line.is_empty() || line.starts_with('#') {
             *self = Block::new(self.alloc);
-            return String::from_str(self.alloc, line);
+            answers.push_str(line)?;
+        } else {
+            answers.push_str(&answer_text(self.alloc, self.case_answer(line))?)?;
         }
-        answer_text(self.alloc, self.case_answer(line))
+        answers.push('\n')
     }
 
     fn case_answer(&mut self, text: &str) -> Result<String, Fault> {
@@ -65,8 +66,8 @@ impl Block {
             "fronts" => spellings::fronts(alloc, line),
             "encode" => spellings::encode(alloc, line),
             "recode" => spellings::recode(alloc, line),
-            "feed" => feeds::spellings(alloc, line),
-            "text" => feeds::texts(alloc, line),
+            "feed" => streams::spellings(alloc, line),
+            "text" => streams::texts(alloc, line),
             "build" => terms::build(alloc, line),
             "copy" => terms::copy(alloc, line),
             "depth" => terms::depth(alloc, line),

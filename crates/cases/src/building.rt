@@ -3,8 +3,8 @@ ghost use Rattle.dets_term.specs.BitString.{MayUse};
 
 use crate::fault::Fault;
 use crate::line::{Line, bytes_of, counted};
-use crate::texts::term_of;
-use dets_term::{ByteList, Memory, PairList, Term, TermList};
+use crate::texts::{only, term_of};
+use dets_term::{ByteList, PairList, Term, TermList};
 use std::alloc::Global;
 use std::str;
 
@@ -17,37 +17,32 @@ struct Builder {
 
 /// The term that the rest of a line builds.
 pub fn one_term(alloc: Global, line: &mut Line) -> Result<Term, Fault> {
-    let mut builder = Builder::after(alloc, line)?;
-    let term = builder.pop()?;
-    builder.end()?;
-    Ok(term)
+    only(built(alloc, line)?)
 }
 
 /// The two terms that the rest of a line builds.
 pub fn two_terms(alloc: Global, line: &mut Line) -> Result<(Term, Term), Fault> {
-    let mut builder = Builder::after(alloc, line)?;
-    let second = builder.pop()?;
-    let first = builder.pop()?;
-    builder.end()?;
-    Ok((first, second))
+    let mut terms = built(alloc, line)?;
+    let second = terms.pop().ok_or(Fault::BadLine)?;
+    Ok((only(terms)?, second))
+}
+
+/// All terms that the rest of a line builds.
+fn built(alloc: Global, line: &mut Line) -> Result<Vec<Term>, Fault> {
+    let mut builder = Builder {
+        alloc,
+        terms: Vec::new(alloc),
+    };
+    for word in line.rest() {
+        let (step, count) = counted(&word, '^');
+        for _ in 0..count {
+            builder.step(step)?;
+        }
+    }
+    Ok(builder.terms)
 }
 
 impl Builder {
-    /// After the steps that the rest of a line names.
-    fn after(alloc: Global, line: &mut Line) -> Result<Builder, Fault> {
-        let mut builder = Builder {
-            alloc,
-            terms: Vec::new(alloc),
-        };
-        for word in line.rest() {
-            let (step, count) = counted(&word, '^');
-            for _ in 0..count {
-                builder.step(step)?;
-            }
-        }
-        Ok(builder)
-    }
-
     /// Puts a term last: an atom's name in backquotes, `NAME:OPERAND`, or a printed term.
     fn step(&mut self, step: &str) -> Result<(), Fault> {
         let term = if step.starts_with('`') {
@@ -81,7 +76,7 @@ impl Builder {
     }
 
     fn put(&mut self, term: Term) -> Result<(), Fault> {
-        self.terms.push(term).map_err(Memory::from)?;
+        self.terms.push(term)?;
         Ok(())
     }
 
@@ -116,14 +111,6 @@ impl Builder {
             pairs.push((self.pop()?, value))?;
         }
         Ok(pairs)
-    }
-
-    fn end(&self) -> Result<(), Fault> {
-        if self.terms.is_empty() {
-            Ok(())
-        } else {
-            Err(Fault::BadLine)
-        }
     }
 }
 

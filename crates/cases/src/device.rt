@@ -1,5 +1,5 @@
 //! A host in memory of any kind.
-ghost use Rattle.std.specs.Prelude.{◌≡◌, ◌+◌, ◌≤◌, length, IsTrue};
+ghost use Rattle.std.specs.Prelude.{◌+◌, ◌≤◌, length, IsTrue};
 
 use crate::fault::Fault;
 use host_model::{DiskFailed, FuseHost, Host, MemHost, OutFailed, PerfectHost};

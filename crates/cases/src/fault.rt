@@ -1,10 +1,11 @@
 //! Why a line has no better answer.
 
 use dets_machine::Stop;
-use dets_term::{Memory, TermFault};
+use dets_term::TermFault;
 use etf_codec::EtfFault;
 use hex::FromHexError;
 use host_model::{DiskFailed, OutFailed, SourceFailed};
+use std::alloc::AllocError;
 use std::num::ParseIntError;
 use term_text::TextFault;
 use thiserror::Error;
@@ -16,7 +17,7 @@ pub enum Fault {
     #[error("bad line")]
     BadLine,
     #[error("out of memory")]
-    Memory(#[from(alloc)] Memory),
+    Memory(#[from(alloc)] AllocError),
     #[error("{0:?}")]
     Term(#[from] TermFault),
     #[error("{0:?}")]
@@ -34,8 +35,11 @@ pub enum Fault {
 }
 
 impl From<FromHexError> for Fault {
-    fn from(_error: FromHexError) -> Fault {
-        Fault::BadLine
+    fn from(error: FromHexError) -> Fault {
+        match error {
+            FromHexError::OutOfMemory => Fault::Memory(AllocError),
+            _ => Fault::BadLine,
+        }
     }
 }
 

@@ -5,6 +5,7 @@ use crate::fault::Fault;
 use crate::line::Line;
 use crate::shown::text_or_digits;
 use crate::two_writes::TwoWrites;
+use dets_term::Memory;
 use host_model::{FuseHost, MemHost, PerfectHost, Pick, write_all_and_sync, write_and_sync};
 use std::alloc::Global;
 
@@ -147,10 +148,13 @@ fn restart(alloc: Global, host: &MemHost, line: &mut Line) -> Result<String, Fau
     if moment > host.moments() {
         return Err(Fault::BadLine);
     }
-    let after = host.restart(alloc, moment, pick)?;
-    let file = text_or_digits(alloc, after.file())?;
-    let said = text_or_digits(alloc, after.said())?;
-    Ok(format!(in alloc; "{file} {said}")?)
+    Ok(file_and_output(alloc, &host.restart(alloc, moment, pick)?)?)
+}
+
+fn file_and_output(alloc: Global, host: &MemHost) -> Result<String, Memory> {
+    let file = text_or_digits(alloc, host.file())?;
+    let output = text_or_digits(alloc, host.said())?;
+    format!(in alloc; "{file} {output}")
 }
 
 /// `old`, `new`, `fill BYTE`, `mix NUMBER`

@@ -45,7 +45,7 @@ impl Line {
     pub fn numbers(&mut self) -> Result<Vec<u64>, Fault> {
         let mut numbers = Vec::new(self.alloc);
         for word in self.rest() {
-            numbers.push(word.parse()?).map_err(Memory::from)?;
+            numbers.push(word.parse()?)?;
         }
         Ok(numbers)
     }
@@ -54,7 +54,7 @@ impl Line {
     pub fn sizes(&mut self) -> Result<VecDeque<u64>, Fault> {
         let mut sizes = VecDeque::new(self.alloc);
         for size in split(self.alloc, &self.word()?, ',')? {
-            sizes.push_back(size.parse()?).map_err(Memory::from)?;
+            sizes.push_back(size.parse()?)?;
         }
         Ok(sizes)
     }

@@ -16,7 +16,7 @@ struct Server {
     host: MemHost,
 }
 
-/// `machine TEXT ..`
+/// `machine BYTES ..`
 pub fn serve(alloc: Global, line: &mut Line) -> Result<String, Fault> {
     let mut server = Server {
         machine: Machine::new(alloc),
@@ -24,23 +24,23 @@ pub fn serve(alloc: Global, line: &mut Line) -> Result<String, Fault> {
     };
     let mut answers = String::new(alloc);
     for word in line.rest() {
-        for command in terms_of(alloc, &bytes_of(alloc, &word)?)? {
-            let reply = answer_text(alloc, server.reply(alloc, &command))?;
-            join(&mut answers, "; ", &reply)?;
-        }
-        server.finish()?;
-        join(&mut answers, "; ", "closed")?;
+        server.serve(alloc, &word, &mut answers)?;
     }
     Ok(answers)
 }
 
 impl Server {
-    fn reply(&mut self, alloc: Global, command: &Term) -> Result<String, Fault> {
-        printed(alloc, &self.machine.step(&mut self.host, command)?)
+    /// Answers each command of a text, and behind it that all clients exit.
+    fn serve(&mut self, alloc: Global, word: &str, answers: &mut String) -> Result<(), Fault> {
+        for command in terms_of(alloc, &bytes_of(alloc, word)?)? {
+            let reply = answer_text(alloc, self.reply(alloc, &command))?;
+            join(answers, "; ", &reply)?;
+        }
+        self.machine.finish(&mut self.host)?;
+        Ok(join(answers, "; ", "closed")?)
     }
 
-    /// All clients exit.
-    fn finish(&mut self) -> Result<(), Fault> {
-        Ok(self.machine.finish(&mut self.host)?)
+    fn reply(&mut self, alloc: Global, command: &Term) -> Result<String, Fault> {
+        printed(alloc, &self.machine.step(&mut self.host, command)?)
     }
 }

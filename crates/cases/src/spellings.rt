@@ -4,7 +4,7 @@ use crate::building::one_term;
 use crate::fault::Fault;
 use crate::line::Line;
 use crate::shown::{answer_text, digits, join, printed};
-use dets_term::Memory;
+use dets_term::{Memory, Term};
 use std::alloc::Global;
 
 /// What some bytes are read as.
@@ -79,8 +79,13 @@ pub fn encode(alloc: Global, line: &mut Line) -> Result<String, Fault> {
 pub fn recode(alloc: Global, line: &mut Line) -> Result<String, Fault> {
     let bytes = line.bytes()?;
     let (term, count) = etf_codec::decode(alloc, &bytes)?;
-    let spelled = etf_codec::encode(alloc, &term)?;
-    if spelled.as_slice() == &bytes[..count] {
+    canonical(alloc, &term, &bytes[..count])
+}
+
+/// The canonical spelling of a term, where these bytes are not it.
+fn canonical(alloc: Global, term: &Term, bytes: &[u8]) -> Result<String, Fault> {
+    let spelled = etf_codec::encode(alloc, term)?;
+    if spelled.as_slice() == bytes {
         Ok(String::from_str(alloc, "canonical")?)
     } else {
         Ok(digits(alloc, spelled.as_slice())?)

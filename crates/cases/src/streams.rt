@@ -1,7 +1,8 @@
 //! Terms from streams that come in pieces.
-ghost use Rattle.std.specs.Prelude.{◌≡◌, ◌<◌, ◌≤◌, ◌+◌, ◌^◌, length, false, OnOk};
+ghost use Rattle.std.specs.Prelude.{◌≡◌, false};
 
 use crate::fault::Fault;
+use crate::feed::Feed;
 use crate::line::Line;
 use crate::shown::{join, printed};
 use dets_term::Memory;
@@ -10,70 +11,6 @@ use std::alloc::Global;
 use std::collections::VecDeque;
 use std::fmt::Write;
 use term_text::TextFeed;
-
-/// A stream of terms that comes in pieces.
-trait Feed: Drop {
-    ghost use Rattle.std.specs.Prelude.{ℕ, Bool};
-
-    /// How many bytes came.
-    ghost fed: { Self → ℕ };
-
-    /// Whether no more come.
-    ghost is_finished: { Self → Bool };
-
-    fn take(&mut self, piece: &[u8]) -> Result<(), Memory>
-        requires open { is_finished self.old ≡ false }
-        requires room { fed self.old + length piece.now < 2 ^ 63 }
-        ensures ok { OnOk result (fed self.new ≡ fed self.old + length piece.now) }
-        ensures open { OnOk result (is_finished self.new ≡ false) };
-
-    fn end(&mut self);
-
-    fn answer(&mut self) -> Result<Fed, Fault>
-        ensures fed { fed self.new ≡ fed self.old }
-        ensures finished { is_finished self.new ≡ is_finished self.old };
-}
-
-impl Feed for TermFeed {
-    ghost use Rattle.etf_model.specs.SpellingFeed.{total};
-
-    ghost fed = { total };
-
-    ghost is_finished = { λ feed. feed.finished };
-
-    fn take(&mut self, piece: &[u8]) -> Result<(), Memory> {
-        self.feed(piece)
-    }
-
-    fn end(&mut self) {
-        self.finish();
-    }
-
-    #[tactic(auto, using(crate::proofs::FedBytes::next_kept))]
-    fn answer(&mut self) -> Result<Fed, Fault> {
-        Ok(self.next()?)
-    }
-}
-
-impl Feed for TextFeed {
-    ghost use Rattle.term_text.specs.FeedState.{total as text_total};
-
-    ghost fed = { text_total };
-
-    ghost is_finished = { λ feed. feed.finished };
-
-    fn take(&mut self, piece: &[u8]) -> Result<(), Memory> {
-        self.feed(piece)
-    }
-
-    fn end(&mut self) {
-        self.finish();
-    }
-
-    fn answer(&mut self) -> Result<Fed, Fault> {
-        Ok(self.next()?)
-    }
-}
 
 /// `feed SIZES BYTES`
 pub fn spellings(alloc: Global, line: &mut Line) -> Result<String, Fault> {
@@ -124,17 +61,8 @@ fn take_all<F: Feed>(feed: &mut F, told: &mut Told) -> Result<(), Fault>
     ensures finished { F.is_finished feed.new ≡ F.is_finished feed.old }
 {
     for _ in 0..u64::MAX {
-        match feed.answer() {
-            Ok(Fed::Term(term)) => {
-                let text = printed(told.alloc, &term)?;
-                told.answer(&text)?;
-            }
-            Ok(Fed::Again) => break,
-            Ok(Fed::End) => return Ok(told.last_answer("End")?),
-            Err(fault) => {
-                let text = format!(in told.alloc; "{fault}")?;
-                return Ok(told.last_answer(&text)?);
-            }
+        if !told.hear(feed.answer())? {
+            break;
         }
     }
     Ok(())
@@ -165,8 +93,26 @@ impl Told {
         self.text
     }
 
+    /// Tells an answer. Whether another one may come before more input.
+    fn hear(&mut self, answer: Result<Fed, Fault>) -> Result<bool, Fault> {
+        match answer {
+            Ok(Fed::Term(term)) => {
+                let text = printed(self.alloc, &term)?;
+                self.tell(&text)?;
+                return Ok(true);
+            }
+            Ok(Fed::Again) => {}
+            Ok(Fed::End) => self.tell_last("End")?,
+            Err(fault) => {
+                let text = format!(in self.alloc; "{fault}")?;
+                self.tell_last(&text)?;
+            }
+        }
+        Ok(false)
+    }
+
     /// Tells an answer, and behind how many bytes it came.
-    fn answer(&mut self, answer: &str) -> Result<(), Memory> {
+    fn tell(&mut self, answer: &str) -> Result<(), Memory> {
         join(&mut self.text, "; ", answer)?;
         if let Some(fed) = self.fed {
             write!(self.text, " after {fed}")?;
@@ -175,9 +121,9 @@ impl Told {
     }
 
     /// Tells an end or a fault, where it is another one than before.
-    fn last_answer(&mut self, answer: &str) -> Result<(), Memory> {
+    fn tell_last(&mut self, answer: &str) -> Result<(), Memory> {
         if self.last.as_str() != answer {
-            self.answer(answer)?;
+            self.tell(answer)?;
             self.last = String::from_str(self.alloc, answer)?;
         }
         Ok(())
