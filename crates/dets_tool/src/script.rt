@@ -4,6 +4,7 @@ ghost use Rattle.host_model.specs.Counts.{Rose};
 ghost use Rattle.host_model.specs.Source.{Stream};
 ghost use Rattle.term_text.specs.FeedState.{total};
 ghost use Rattle.run_model.specs.State.{first_state};
+ghost use Rattle.run_model.specs.Step.{after_exit};
 ghost use Rattle.dets_tool.specs.Status.{status_of_pull, status_of_run};
 ghost use Rattle.dets_tool.specs.Run.{Ran, reply_line};
 
@@ -172,6 +173,8 @@ impl Script {
     /// Ends all clients, unless nothing more is to be called after this end. A fault on this way counts in its place.
     fn close<H: Host>(&mut self, host: &mut H, end: Status) -> Status
         ensures end { (result ≡ end) ⊎ (result ≡ Status.Memory) }
+        ensures exit { result ≢ Status.Output → result ≢ Status.Memory
+            → self.new.machine.state ≡ after_exit self.old.machine.state }
         ensures host { host.new ≡ host.old }
     {
         match end {
