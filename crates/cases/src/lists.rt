@@ -4,7 +4,7 @@ use crate::building::one_term;
 use crate::fault::Fault;
 use crate::line::Line;
 use crate::shown::{digits, none, printed};
-use dets_term::{ByteList, Node, Text};
+use dets_term::{ByteList, Node, Term, Text};
 use std::alloc::Global;
 use std::str;
 
@@ -45,14 +45,20 @@ pub fn character(alloc: Global, line: &mut Line) -> Result<String, Fault> {
 pub fn part(alloc: Global, line: &mut Line) -> Result<String, Fault> {
     let place = line.number()? as usize;
     let term = one_term(alloc, line)?;
-    let (found, count) = match term.node() {
+    match term.node() {
         Node::Tuple(parts) | Node::List(parts) | Node::Improper(parts, _) => {
-            (parts.get(place), parts.len())
+            part_text(alloc, parts.get(place), parts.len())
         }
-        Node::Map(pairs) => (pairs.get(place).map(|pair| &pair.0), pairs.len()),
-        _ => return Err(Fault::BadLine),
-    };
-    let found = match found {
+        Node::Map(pairs) => {
+            let key = pairs.get(place).map(|pair| &pair.0);
+            part_text(alloc, key, pairs.len())
+        }
+        _ => Err(Fault::BadLine),
+    }
+}
+
+fn part_text(alloc: Global, part: Option<&Term>, count: usize) -> Result<String, Fault> {
+    let found = match part {
         Some(part) => printed(alloc, part)?,
         None => none(alloc)?,
     };
