@@ -44,6 +44,7 @@ pub fn write_and_sync<H: Host>(host: &mut H, at: u64, bytes: &[u8]) -> Result<()
     ensures said { (H.shows host.new).said ≡ (H.shows host.old).said }
     ensures reads { (H.shows host.new).reads ≡ (H.shows host.old).reads }
     ensures cause { OnErr result (Rose (H.shows host.old).disk_faults (H.shows host.new).disk_faults) }
+    ensures ok_faults { OnOk result ((H.shows host.new).disk_faults ≡ (H.shows host.old).disk_faults) }
     ensures never_falls { (H.shows host.old).disk_faults ≤ (H.shows host.new).disk_faults }
     ensures out_faults { (H.shows host.new).out_faults ≡ (H.shows host.old).out_faults }
 {
@@ -67,6 +68,7 @@ pub fn write_all_and_sync<H: Host, W: Writes>(host: &mut H, writes: &W) -> Resul
     ensures clock { (H.shows host.new).clock ≤ (H.shows host.old).clock + length (W.list writes.now) + 1 }
 
     ensures cause { OnErr result (Rose (H.shows host.old).disk_faults (H.shows host.new).disk_faults) }
+    ensures ok_faults { OnOk result ((H.shows host.new).disk_faults ≡ (H.shows host.old).disk_faults) }
 {
     write_all(host, writes)?;
     host.sync()
@@ -80,6 +82,7 @@ fn write_all<H: Host, W: Writes>(host: &mut H, writes: &W) -> Result<(), DiskFai
     ensures tearing { Tearing (ranges_of (W.list writes.now)) (H.shows host.old) (H.shows host.new) }
     ensures clock { (H.shows host.new).clock ≤ (H.shows host.old).clock + length (W.list writes.now) }
     ensures cause { OnErr result (Rose (H.shows host.old).disk_faults (H.shows host.new).disk_faults) }
+    ensures ok_faults { OnOk result ((H.shows host.new).disk_faults ≡ (H.shows host.old).disk_faults) }
 {
     for i in 0..writes.count() {
         host.write_at(writes.place(i), writes.bytes(i))?;

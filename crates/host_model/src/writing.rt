@@ -28,6 +28,7 @@ pub trait Host {
         ensures rests { Rests (shows self.old) (shows self.new) }
         ensures reads { (shows self.new).reads ≡ (shows self.old).reads }
         ensures cause { OnErr result (Rose (shows self.old).disk_faults (shows self.new).disk_faults) }
+        ensures ok_faults { OnOk result ((shows self.new).disk_faults ≡ (shows self.old).disk_faults) }
         ensures never_falls { (shows self.old).disk_faults ≤ (shows self.new).disk_faults }
         ensures out_faults { (shows self.new).out_faults ≡ (shows self.old).out_faults };
 
@@ -40,6 +41,7 @@ pub trait Host {
         ensures counted { OnOk result (CountsRead (shows self.old) (shows self.new)) }
         ensures reads { OnErr result (MayCountRead (shows self.old) (shows self.new)) }
         ensures cause { OnErr result (Rose (shows self.old).disk_faults (shows self.new).disk_faults) }
+        ensures ok_faults { OnOk result ((shows self.new).disk_faults ≡ (shows self.old).disk_faults) }
         ensures never_falls { (shows self.old).disk_faults ≤ (shows self.new).disk_faults }
         ensures out_faults { (shows self.new).out_faults ≡ (shows self.old).out_faults };
 
@@ -56,6 +58,7 @@ pub trait Host {
         ensures said { (shows self.new).said ≡ (shows self.old).said }
         ensures reads { (shows self.new).reads ≡ (shows self.old).reads }
         ensures cause { OnErr result (Rose (shows self.old).disk_faults (shows self.new).disk_faults) }
+        ensures ok_faults { OnOk result ((shows self.new).disk_faults ≡ (shows self.old).disk_faults) }
         ensures never_falls { (shows self.old).disk_faults ≤ (shows self.new).disk_faults }
         ensures out_faults { (shows self.new).out_faults ≡ (shows self.old).out_faults };
 
@@ -68,6 +71,7 @@ pub trait Host {
         ensures said { (shows self.new).said ≡ (shows self.old).said }
         ensures reads { (shows self.new).reads ≡ (shows self.old).reads }
         ensures cause { OnErr result (Rose (shows self.old).disk_faults (shows self.new).disk_faults) }
+        ensures ok_faults { OnOk result ((shows self.new).disk_faults ≡ (shows self.old).disk_faults) }
         ensures never_falls { (shows self.old).disk_faults ≤ (shows self.new).disk_faults }
         ensures out_faults { (shows self.new).out_faults ≡ (shows self.old).out_faults };
 
@@ -82,6 +86,7 @@ pub trait Host {
         ensures file { (shows self.new).file ≡ (shows self.old).file }
         ensures reads { (shows self.new).reads ≡ (shows self.old).reads }
         ensures cause { OnErr result (Rose (shows self.old).out_faults (shows self.new).out_faults) }
+        ensures ok_faults { OnOk result ((shows self.new).out_faults ≡ (shows self.old).out_faults) }
         ensures never_falls { (shows self.old).out_faults ≤ (shows self.new).out_faults }
         ensures disk_faults { (shows self.new).disk_faults ≡ (shows self.old).disk_faults };
 

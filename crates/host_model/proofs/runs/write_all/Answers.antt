@@ -1,4 +1,4 @@
-use Rattle.std.proofs.Common.{length, arith}
+use Rattle.std.proofs.Common.{length, refl, ◌∙◌, arith}
 use Rattle.host_model.specs.Tearing.{tearing_start, tearing_more, changes_written}
 use Rattle.host_model.specs.Writes.{ranges_of}
 use Rattle.host_model.proofs.WritesMade.{IsWrite, is_within, may_write, written_more, none_written}
@@ -8,6 +8,7 @@ pub loop-i-init : goal.loop-i-init
 loop-i-init g c = record {
   written = none_written (g.H.Host.shows c.args.host.now).file;
   tearing = tearing_start (ranges_of (g.W.Writes.list c.args.writes.now)) (g.H.Host.shows c.args.host.now) (g.met.H.Host.coherent c.args.host.now);
+  ok_faults = refl;
   clock = omega arith;
 }
 
@@ -42,5 +43,6 @@ loop-i-preserved g c =
           (is_within writes c.loop-i.i c.place.result c.bytes.result.now is)
           c.loop-i.invariant.tearing e.goes (changes_written c.place.result c.bytes.result.now mid.file new.file inside e.written) e.said e.reads e.never_falls
           e.out_faults;
+      ok_faults = e.ok_faults ∙ c.loop-i.invariant.ok_faults;
       clock = omega (arith, c.loop-i.invariant.clock, e.goes.by_one);
     }
