@@ -52,7 +52,7 @@ impl TermReader {
         ensures { ReaderReads self.old self.new cursor.old cursor.new result }
     {
         loop {
-            let answer = self.step(alloc, cursor)?;
+            let answer = self.advance(alloc, cursor)?;
             match answer {
                 Some(term) => return Ok(term),
                 None => {}
@@ -62,7 +62,7 @@ impl TermReader {
 
     /// The byte in front, the next part up to its own first part, or a magnitude. `None` where there is more to read,
     /// else the term.
-    fn step(&mut self, alloc: Global, cursor: &mut Cursor<'_>) -> Result<Option<Term>, EtfFault>
+    fn advance(&mut self, alloc: Global, cursor: &mut Cursor<'_>) -> Result<Option<Term>, EtfFault>
         requires { IsReader self.old }
         ensures reads { StepReads self.old self.new cursor.old cursor.new result }
         ensures forward { IfOk result (λ term. ahead self.new cursor.new < ahead self.old cursor.old) }

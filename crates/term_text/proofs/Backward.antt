@@ -6,7 +6,7 @@ use Rattle.dets_term.specs.TermValue.{integer, atom, TermValue}
 use Rattle.term_text.specs.declared.nest.Bracket.{Bracket}
 use Rattle.term_text.specs.Printed.{is_plain_atom}
 use Rattle.term_text.specs.Token.{Token, opening, closing, comma, full_stop, name, number, is_white, each, Spelled, IsApart, Spells, IsSentence}
-use Rattle.term_text.specs.Machine.{NestState, may_begin, complete, take_token, Unfinished, no_token, in_name, in_minus, in_number, ReaderState, fresh_state, goes_on, extended, settled, first_byte, single, begun_token, begun, next_state, run, NestPlace, want, opened, after, whole, stopped, Frame, close, bracketed, same_bracket, may_close, after_comma, after_stop}
+use Rattle.term_text.specs.Machine.{NestState, may_begin, complete, take_token, Unfinished, no_token, in_name, in_minus, in_number, ReaderState, fresh_state, goes_on, extended, settled, first_byte, single, begun_token, token_begun, next_state, run, NestPlace, want, opened, after, whole, stopped, Frame, close, bracketed, same_bracket, may_close, after_comma, after_stop}
 use Rattle.term_text.specs.Valid.{ValidNest, ValidToken, IsValid, ValidPlace}
 use Rattle.term_text.proofs.Forward.{IsWithin}
 use Rattle.term_text.proofs.HasRead.{TokenBytes, read_tokens, HasRead}
@@ -22,14 +22,14 @@ by_option_map f (Some x) y e g = g x refl (let h : f x ≡ y = cc in h)
 -- a byte goes on with a token, or that token is settled and the byte begins
 pub by_step : {P : Type 0} (s n : ReaderState) (x : ℕ) → next_state s x ≡ Some n
     → ((u : Unfinished) → goes_on s.token x ≡ true → extended s.token x ≡ Some u → record { nest = s.nest; token = u } ≡ n → P)
-    → ((m : NestState) → goes_on s.token x ≡ false → settled s.nest s.token ≡ Some m → begun m x ≡ Some n → P) → P
+    → ((m : NestState) → goes_on s.token x ≡ false → settled s.nest s.token ≡ Some m → token_begun m x ≡ Some n → P) → P
 by_step s n x e f g =
     by_cond (goes_on s.token x) _ _ _ e
     (λ t h. by_option_map _ (extended s.token x) n h (λ u. f u t))
     (λ t h. option_and_then_some _ (settled s.nest s.token) n h (λ m. g m t))
 
 -- a byte that begins is white space, a token, or the first byte of one
-pub by_begun : {P : Type 0} (m : NestState) (n : ReaderState) (x : ℕ) → begun m x ≡ Some n
+pub by_begun : {P : Type 0} (m : NestState) (n : ReaderState) (x : ℕ) → token_begun m x ≡ Some n
     → (is_white x ≡ true → record { nest = m; token = no_token } ≡ n → P)
     → ((token : Token) (k : NestState) → single x ≡ Some token → take_token m token ≡ Some k → record { nest = k; token = no_token } ≡ n → P)
     → ((u : Unfinished) → may_begin m ≡ true → first_byte x ≡ Some u → record { nest = m; token = u } ≡ n → P) → P
@@ -68,7 +68,7 @@ IsWithin-single x token e = is_within token (single-spells x token [] e).1
     is_within (name characters) h = absurd h
     is_within (number z) h = absurd h
 
-Good-begun : (m : NestState) (n : ReaderState) (x : ℕ) → ValidNest m → begun m x ≡ Some n → IsValid n
+Good-begun : (m : NestState) (n : ReaderState) (x : ℕ) → ValidNest m → token_begun m x ≡ Some n → IsValid n
 Good-begun m n x g e =
     by_begun m n x e
     (λ w same. subst (λ (s : ReaderState). IsValid s) same (record { nest = g; token = tt }))
@@ -150,26 +150,27 @@ single-read m k token bytes x g h s t =
     subst (λ (ts : List Token). Spells ts (bytes ++ x ∷ []) []) (sym (read_tokens-take_token m k token g.place t))
     (Spells-push (read_tokens m.frames m.place) token (bytes ++ x ∷ []) h.blanks (x ∷ []) [] h.text h.blank spells.0 spells.1)
 
-begun-reads : (m : NestState) (n : ReaderState) (x : ℕ) (bytes : List ℕ) → ValidNest m → IsBefore m bytes x → begun m x ≡ Some n → HasRead n (bytes ++ x ∷ [])
+begun-reads : (m : NestState) (n : ReaderState) (x : ℕ) (bytes : List ℕ) → ValidNest m → IsBefore m bytes x → token_begun m x ≡ Some n
+    → HasRead n (bytes ++ x ∷ [])
 begun-reads m n x bytes g h e =
     by_begun m n x e
     (λ w same. subst (λ (s : ReaderState). HasRead s (bytes ++ x ∷ [])) same (record {
       blanks = h.blanks ++ x ∷ [];
-      begun = [];
+      token_begun = [];
       blank = each-push is_white h.blanks x h.blank w;
       token = refl;
       text = rw append-nil h.text;
     }))
     (λ token k s t same. subst (λ (s : ReaderState). HasRead s (bytes ++ x ∷ [])) same (record {
       blanks = [];
-      begun = [];
+      token_begun = [];
       blank = refl;
       token = refl;
       text = single-read m k token bytes x g h s t;
     }))
     (λ u b f same. subst (λ (s : ReaderState). HasRead s (bytes ++ x ∷ [])) same (record {
       blanks = h.blanks;
-      begun = x ∷ [];
+      token_begun = x ∷ [];
       blank = h.blank;
       token = (first_byte-begins m x u b f).1;
       text = h.text;
@@ -178,7 +179,7 @@ begun-reads m n x bytes g h e =
 before-settled : (s : ReaderState) (m : NestState) (x : ℕ) (bytes : List ℕ) → IsValid s → HasRead s bytes → goes_on s.token x ≡ false
     → settled s.nest s.token ≡ Some m → IsBefore m bytes x
 before-settled s m x bytes g r t q =
-    settled-read s.nest m s.token r.blanks r.begun bytes x g.nest g.token t q r.blank r.token r.text
+    settled-read s.nest m s.token r.blanks r.token_begun bytes x g.nest g.token t q r.blank r.token r.text
 
 -- each byte is read
 pub reads_step : (s n : ReaderState) (x : ℕ) (bytes : List ℕ) → IsValid s → HasRead s bytes → next_state s x ≡ Some n → HasRead n (bytes ++ x ∷ [])
@@ -186,13 +187,13 @@ reads_step s n x bytes g r e =
     by_step s n x e
     (λ u t q same. subst (λ (s : ReaderState). HasRead s (bytes ++ x ∷ [])) same (record {
       blanks = r.blanks;
-      begun = r.begun ++ x ∷ [];
+      token_begun = r.token_begun ++ x ∷ [];
       blank = r.blank;
-      token = TokenBytes-extended s.token u r.begun x r.token t q;
+      token = TokenBytes-extended s.token u r.token_begun x r.token t q;
       text =
           subst (λ (l : List ℕ). Spells (read_tokens s.nest.frames s.nest.place) (bytes ++ x ∷ []) l)
-          (append_assoc r.blanks r.begun (x ∷ []))
-          (Spells-more (read_tokens s.nest.frames s.nest.place) bytes (r.blanks ++ r.begun) (x ∷ []) r.text);
+          (append_assoc r.blanks r.token_begun (x ∷ []))
+          (Spells-more (read_tokens s.nest.frames s.nest.place) bytes (r.blanks ++ r.token_begun) (x ∷ []) r.text);
     }))
     (λ m t q b. begun-reads m n x bytes (ValidNest-settled s.nest m s.token g.nest g.token q) (before-settled s m x bytes g r t q) b)
 
@@ -211,7 +212,7 @@ pub run_reads : (bytes : List ℕ) (s : ReaderState) → run fresh_state bytes �
 run_reads bytes s e =
     run_reads_on bytes [] fresh_state s
     (record { nest = record { frames = tt; place = tt }; token = tt })
-    (record { blanks = []; begun = []; blank = refl; token = refl; text = refl }) e
+    (record { blanks = []; token_begun = []; blank = refl; token = refl; text = refl }) e
 
 -- ---- what it accepts
 
@@ -284,7 +285,8 @@ pub record IsRead (t : TermValue) (bytes : List ℕ) (x : ℕ) (n : ReaderState)
   pub same : n ≡ record { nest = record { frames = []; place = stopped t }; token = no_token }
   pub dot : x ≡ 46
 
-begun-stops : (m : NestState) (n : ReaderState) (x : ℕ) (bytes : List ℕ) (t : TermValue) → ValidNest m → IsGoingOn m → IsBefore m bytes x → begun m x ≡ Some n
+begun-stops : (m : NestState) (n : ReaderState) (x : ℕ) (bytes : List ℕ) (t : TermValue) → ValidNest m → IsGoingOn m → IsBefore m bytes x
+    → token_begun m x ≡ Some n
     → n.nest.place ≡ stopped t → IsRead t bytes x n
 begun-stops m n x bytes t g on h e p =
     by_begun m n x e

@@ -72,7 +72,8 @@ room (f ∷ fs) g more = has_room f.parts g.1 more
     has_room [] all some = absurd (omega arith)
     has_room (t ∷ ts) all some = omega (arith, all.0.shallow)
 
-step_opening : (fs : List Frame) → length fs < 256 → next_state (between (record { frames = fs; place = want })) 91 ≡ Some (between (bracket_at Square [] fs opened))
+step_opening : (fs : List Frame) → length fs < 256 → next_state (between (record { frames = fs; place = want })) 91 ≡ Some
+    (between (bracket_at Square [] fs opened))
 step_opening fs h = let l = lt-ltb (length fs) 256 h in rw l
 
 nest_stops : (fs : List Frame) (place : NestPlace) → ValidFrames fs → ValidPlace fs place → is_stopped place ≡ false

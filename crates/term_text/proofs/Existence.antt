@@ -66,7 +66,8 @@ course_behind s m c x bytes going e t (inr (inr f)) = inr (inr (record {
 
 -- the first byte is refused
 fails_here : (s : ReaderState) (c x : ℕ) (bytes : List ℕ) → is_stopped s.nest.place ≡ false
-    → (next_state s x ≡ None) ⊎ ((m : ReaderState) × (next_state s x ≡ Some m) × (is_stopped m.nest.place ≡ false) × (2 ^ 24 ≤ counted c x)) → Course s c (x ∷ bytes)
+    → (next_state s x ≡ None) ⊎ ((m : ReaderState) × (next_state s x ≡ Some m) × (is_stopped m.nest.place ≡ false) × (2 ^ 24 ≤ counted c x))
+    → Course s c (x ∷ bytes)
 fails_here s c x bytes going f =
     inr (inr (record { front = []; byte = x; rest = bytes; whole = refl; state = s; total = c; reached = (refl, refl); moving = going; failed = f }))
 
@@ -77,7 +78,8 @@ course_on x bytes s c o others = by_place (cases_Bool (is_stopped s.nest.place))
     on : (m : ReaderState) → is_stopped s.nest.place ≡ false → next_state s x ≡ Some m → IsInTime m (counted c x) → Course s c (x ∷ bytes)
     on m going e t = course_behind s m c x bytes going e t (others m (counted c x) (orderly_step s c x m o going e t))
 
-    in_time : (m : ReaderState) → is_stopped s.nest.place ≡ false → next_state s x ≡ Some m → (is_stopped m.nest.place ≡ true) ⊎ (is_stopped m.nest.place ≡ false)
+    in_time : (m : ReaderState) → is_stopped s.nest.place ≡ false → next_state s x ≡ Some m → (is_stopped m.nest.place ≡ true)
+        ⊎ (is_stopped m.nest.place ≡ false)
         → (counted c x < 2 ^ 24) ⊎ (2 ^ 24 ≤ counted c x) → Course s c (x ∷ bytes)
     in_time m going e (inl stops) h = on m going e (inl stops)
     in_time m going e (inr goes) (inl less) = on m going e (inr less)

@@ -156,7 +156,8 @@ run_name (c ∷ cs) s n (x ∷ rest) h e a t =
 
 -- the digits of a number, from the first on, up to the byte behind them
 run_digits : (s n : NestState) (u : Unfinished) (minus : Bool) (z : ℤ) (d : ℕ) (ds rest : List ℕ)
-    → (next_state (amid s u) d ≡ Some (amid s (in_number minus (with_digit minus (pos 0) d)))) → fits z ≡ true → Decimal minus z (d ∷ ds) → IsApart (number z) rest
+    → (next_state (amid s u) d ≡ Some (amid s (in_number minus (with_digit minus (pos 0) d)))) → fits z ≡ true → Decimal minus z (d ∷ ds)
+    → IsApart (number z) rest
     → complete s.frames (integer z) ≡ n → run (amid s u) ((d ∷ ds) ++ rest) ≡ run (between n) rest
 run_digits s n u minus z d ds [] b f e a m = absurd a
 run_digits s n u minus z d ds (x ∷ rest) b f e a m =

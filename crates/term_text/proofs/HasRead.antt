@@ -48,7 +48,7 @@ TokenBytes (in_number true z) bytes = (ds : List ℕ) × (bytes ≡ 45 ∷ ds) �
 -- that was begun follow
 pub record HasRead (s : ReaderState) (bytes : List ℕ) : Type 0 where
   pub blanks : List ℕ
-  pub begun : List ℕ
+  pub token_begun : List ℕ
   pub blank : each is_white blanks ≡ true
-  pub token : TokenBytes s.token begun
-  pub text : Spells (read_tokens s.nest.frames s.nest.place) bytes (blanks ++ begun)
+  pub token : TokenBytes s.token token_begun
+  pub text : Spells (read_tokens s.nest.frames s.nest.place) bytes (blanks ++ token_begun)

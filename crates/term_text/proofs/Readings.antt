@@ -4,7 +4,7 @@ use Rattle.std.proofs.lemmas.Bool.{cases_Bool, and_parts}
 use Rattle.std.proofs.lemmas.Option.{option_and_then_some}
 use Rattle.dets_term.specs.TermValue.{TermValue}
 use Rattle.term_text.specs.Token.{Token, opening, closing, comma, full_stop, name, number, is_white, IsSentence}
-use Rattle.term_text.specs.Machine.{stopped, NestState, wants, may_begin, take_token, Unfinished, no_token, in_name, in_minus, in_number, ReaderState, fresh_state, goes_on, extended, settled, first_byte, single, seated, begun_token, begun, next_state, run}
+use Rattle.term_text.specs.Machine.{stopped, NestState, wants, may_begin, take_token, Unfinished, no_token, in_name, in_minus, in_number, ReaderState, fresh_state, goes_on, extended, settled, first_byte, single, seated, begun_token, token_begun, next_state, run}
 use Rattle.term_text.proofs.Forward.{between, amid, run_step}
 use Rattle.term_text.proofs.Sentences.{run-append, reaches, stopped_nest}
 
@@ -77,7 +77,7 @@ begun_token_holds s None x n e =
     (λ m f. amid_holds s (first_byte x) n (and_parts (wants s.place) (nat_lt (length s.frames) 256) m).0 f)
     (λ f. absurd (none_is_not_some None n refl f)) e
 
-begun_holds : (s : NestState) (x : ℕ) (n : ReaderState) → begun s x ≡ Some n → Holds n
+begun_holds : (s : NestState) (x : ℕ) (n : ReaderState) → token_begun s x ≡ Some n → Holds n
 begun_holds s x n e =
     either_holds (is_white x) (seated (Some s)) (begun_token s (single x) x) n
     (λ _ f. seated_holds (Some s) n f) (λ f. begun_token_holds s (single x) x n f) e
@@ -92,9 +92,9 @@ extended_holds s (in_number minus z) x n h e = amid_holds s (extended (in_number
 step_holds : (s n : ReaderState) (x : ℕ) → Holds s → next_state s x ≡ Some n → Holds n
 step_holds s n x h e =
     either_holds (goes_on s.token x) (option_map (λ (u : Unfinished). record s { token = u }) (extended s.token x))
-    (option_and_then (λ (m : NestState). begun m x) (settled s.nest s.token)) n
+    (option_and_then (λ (m : NestState). token_begun m x) (settled s.nest s.token)) n
     (λ _ f. extended_holds s.nest s.token x n h f)
-    (λ f. option_and_then_some (λ (m : NestState). begun m x) (settled s.nest s.token) n f (λ m _ more. begun_holds m x n more)) e
+    (λ f. option_and_then_some (λ (m : NestState). token_begun m x) (settled s.nest s.token) n f (λ m _ more. begun_holds m x n more)) e
 
 run_holds : (s n : ReaderState) (p : List ℕ) → Holds s → run s p ≡ Some n → Holds n
 run_holds s n [] h e = let same : s ≡ n = cc in subst (λ m. Holds m) same h

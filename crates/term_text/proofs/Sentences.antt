@@ -110,7 +110,8 @@ term_is_read t bytes rest b d e =
     = ap (take_tokens (record { frames = []; place = want })) (sym (append-nil (tokens_of t))) ∙ take_term t [] want [] refl b (omega arith) in
     run_tokens (tokens_of t) bytes rest (record { frames = []; place = want }) (whole_nest t) (within t b) e taken
 
-stop_is_read : (t : TermValue) (bytes rest : List ℕ) → BeginsWithToken full_stop bytes rest → run (between (whole_nest t)) bytes ≡ run (between (stopped_nest t)) rest
+stop_is_read : (t : TermValue) (bytes rest : List ℕ) → BeginsWithToken full_stop bytes rest
+    → run (between (whole_nest t)) bytes ≡ run (between (stopped_nest t)) rest
 stop_is_read t bytes rest f = run_fronts full_stop (whole_nest t) (stopped_nest t) bytes rest tt f refl
 
 -- a full stop behind white space, with what follows it

@@ -62,7 +62,7 @@ whole_read [] n total t r p = let clash : want ≡ stopped t = ap (λ (k : Reade
 whole_read (x ∷ xs) n total t r p =
     whole_on xs [] fresh_state 0 x n total t
     (record { nest = record { frames = tt; place = tt }; token = tt })
-    (record { blanks = []; begun = []; blank = refl; token = refl; text = refl }) (omega arith) r p
+    (record { blanks = []; token_begun = []; blank = refl; token = refl; text = refl }) (omega arith) r p
 
 pub counted-more : (c x : ℕ) → counted (suc c) x ≡ suc (suc c)
 counted-more c x = by_count (λ k. k ≡ suc (suc c)) (suc c) x (λ z _. absurd (omega (arith, z))) (λ _. omega arith)

@@ -113,21 +113,22 @@ ValidToken-extended nest (in_number minus z) u x g h e =
     subst (λ (v : Unfinished). ValidToken nest v) k.1 (g.0, k.0)
 
 -- its bytes are one more
-pub TokenBytes-extended : (token u : Unfinished) (begun : List ℕ) (x : ℕ) → TokenBytes token begun → goes_on token x ≡ true → extended token x ≡ Some u
-    → TokenBytes u (begun ++ x ∷ [])
-TokenBytes-extended no_token u begun x b h e = cc
-TokenBytes-extended (in_name characters) u begun x b h e =
+pub TokenBytes-extended : (token u : Unfinished) (token_begun : List ℕ) (x : ℕ) → TokenBytes token token_begun → goes_on token x ≡ true
+    → extended token x ≡ Some u
+    → TokenBytes u (token_begun ++ x ∷ [])
+TokenBytes-extended no_token u token_begun x b h e = cc
+TokenBytes-extended (in_name characters) u token_begun x b h e =
     let k = cond_some (nat_lt (length characters) 255) (in_name (characters ++ x ∷ [])) u e in
-    subst (λ (v : Unfinished). TokenBytes v (begun ++ x ∷ [])) k.1 (ap (λ l. l ++ x ∷ []) b)
-TokenBytes-extended in_minus u begun x b h e =
+    subst (λ (v : Unfinished). TokenBytes v (token_begun ++ x ∷ [])) k.1 (ap (λ l. l ++ x ∷ []) b)
+TokenBytes-extended in_minus u token_begun x b h e =
     let same : in_number true (with_digit true (pos 0) x) ≡ u = cc in
-    subst (λ (v : Unfinished). TokenBytes v (begun ++ x ∷ [])) same (x ∷ [], ap (λ l. l ++ x ∷ []) b, Decimal-first true x h)
-TokenBytes-extended (in_number false z) u begun x b h e =
+    subst (λ (v : Unfinished). TokenBytes v (token_begun ++ x ∷ [])) same (x ∷ [], ap (λ l. l ++ x ∷ []) b, Decimal-first true x h)
+TokenBytes-extended (in_number false z) u token_begun x b h e =
     let k = cond_some (fits (with_digit false z x)) (in_number false (with_digit false z x)) u e in
-    subst (λ (v : Unfinished). TokenBytes v (begun ++ x ∷ [])) k.1 (Decimal-push false z begun x b h)
-TokenBytes-extended (in_number true z) u begun x b h e =
+    subst (λ (v : Unfinished). TokenBytes v (token_begun ++ x ∷ [])) k.1 (Decimal-push false z token_begun x b h)
+TokenBytes-extended (in_number true z) u token_begun x b h e =
     let k = cond_some (fits (with_digit true z x)) (in_number true (with_digit true z x)) u e in
-    subst (λ (v : Unfinished). TokenBytes v (begun ++ x ∷ [])) k.1
+    subst (λ (v : Unfinished). TokenBytes v (token_begun ++ x ∷ [])) k.1
     (b.0 ++ x ∷ [], ap (λ l. l ++ x ∷ []) b.1, Decimal-push true z b.0 x b.2 h)
 
 -- ---- the first byte of a token

@@ -18,7 +18,8 @@ stopped_term (stopped t) = Some t
 -- the term that the machine reads from these bytes and a full stop
 abbrev pub read : List ℕ → Option TermValue
 read bytes =
-    option_and_then (λ (s : ReaderState). cond (is_stopped s.nest.place) None (option_and_then (λ (n : ReaderState). stopped_term n.nest.place) (next_state s 46)))
+    option_and_then (λ (s : ReaderState). cond (is_stopped s.nest.place) None
+    (option_and_then (λ (n : ReaderState). stopped_term n.nest.place) (next_state s 46)))
     (run fresh_state bytes)
 
 stopped_at : (p : NestPlace) (t : TermValue) → stopped_term p ≡ Some t → p ≡ stopped t

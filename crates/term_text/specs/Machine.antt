@@ -144,14 +144,14 @@ begun_token nest (Some token) x = seated (take_token nest token)
 begun_token nest None x = cond (may_begin nest) (option_map (λ (u : Unfinished). record { nest = nest; token = u }) (first_byte x)) None
 
 -- the state after a byte that does not go on with a token
-abbrev pub begun : NestState → ℕ → Option ReaderState
-begun nest x = cond (is_white x) (seated (Some nest)) (begun_token nest (single x) x)
+abbrev pub token_begun : NestState → ℕ → Option ReaderState
+token_begun nest x = cond (is_white x) (seated (Some nest)) (begun_token nest (single x) x)
 
 -- the state after a byte; none where no term has such a text
 abbrev pub next_state : ReaderState → ℕ → Option ReaderState
 next_state s x =
     cond (goes_on s.token x) (option_map (λ (u : Unfinished). record s { token = u }) (extended s.token x))
-    (option_and_then (λ (n : NestState). begun n x) (settled s.nest s.token))
+    (option_and_then (λ (n : NestState). token_begun n x) (settled s.nest s.token))
 
 abbrev pub run : ReaderState → List ℕ → Option ReaderState
 run s [] = Some s

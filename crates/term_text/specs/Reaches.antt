@@ -29,7 +29,8 @@ pub record Fails (s : ReaderState) (count : ℕ) (bytes : List ℕ) : Type 0 whe
   pub total : ℕ
   pub reached : Reaches s count front state total
   pub moving : is_stopped state.nest.place ≡ false
-  pub failed : (next_state state byte ≡ None) ⊎ ((m : ReaderState) × (next_state state byte ≡ Some m) × (is_stopped m.nest.place ≡ false) × (2 ^ 24 ≤ counted total byte))
+  pub failed : (next_state state byte ≡ None) ⊎ ((m : ReaderState) × (next_state state byte ≡ Some m) × (is_stopped m.nest.place ≡ false)
+      × (2 ^ 24 ≤ counted total byte))
 
 -- What holds between two bytes: no bracket has more parts than bytes were read, and while there is no full stop
 -- these are fewer than a term may have.

@@ -30,7 +30,8 @@ pub fn bytes_have_one_script()
 pub fn a_script_goes_on_behind_its_first_term()
     ensures { (finished : Bool) (bytes : List ℕ) (t : TermValue) (taken : ℕ) (terms : List Placed) (rest : Rest)
         → IsNext finished bytes t taken → IsScript finished bytes terms rest
-        → (others : List Placed) × (terms ≡ record { term = t; bytes = taken } ∷ others) × IsScript finished (behind (record { term = t; bytes = taken } ∷ []) bytes) others rest }
+        → (others : List Placed) × (terms ≡ record { term = t; bytes = taken } ∷ others)
+        × IsScript finished (behind (record { term = t; bytes = taken } ∷ []) bytes) others rest }
 {}
 
 /// The terms of a first piece are the first terms of the whole, and the others are those of what stands behind them.

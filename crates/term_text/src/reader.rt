@@ -1,7 +1,7 @@
 ghost use Rattle.std.specs.Prelude.{◌≡◌, ◌-◌, ◌<◌, ◌≤◌, ◌+◌, ◌^◌, ◌==◌, true, false, length, take, ◌⊎◌, Some, None, option_and_then, IfOk, OnOk, IsErrOf};
 ghost use Rattle.dets_term.specs.TermValue.{atom};
 ghost use Rattle.term_text.specs.Token.{is_white, with_digit};
-ghost use Rattle.term_text.specs.Machine.{no_token, fresh_state, first_byte, settled, begun, next_state, stopped, ReaderState};
+ghost use Rattle.term_text.specs.Machine.{no_token, fresh_state, first_byte, settled, token_begun, next_state, stopped, ReaderState};
 ghost use Rattle.term_text.specs.Reading.{is_stopped, HasFew};
 ghost use Rattle.term_text.specs.Reading.{nest_of};
 ghost use Rattle.term_text.specs.ReaderView.{token_of, reader_of};
@@ -104,7 +104,8 @@ impl Reader {
         ensures ok { OnOk result ((next_state (reader_of self.old) byte ≡ Some (reader_of self.new)) × IsInTime (reader_of self.new) self.new.length) }
         ensures count { OnOk result (self.new.length ≡ counted self.old.length byte) }
         ensures not_yet { IsErrOf result TextFault.NotYet → (next_state (reader_of self.old) byte ≡ None)
-            ⊎ ((m : ReaderState) × (next_state (reader_of self.old) byte ≡ Some m) × (is_stopped m.nest.place ≡ false) × (2 ^ 24 ≤ counted self.old.length byte)) }
+            ⊎ ((m : ReaderState) × (next_state (reader_of self.old) byte ≡ Some m) × (is_stopped m.nest.place ≡ false)
+            × (2 ^ 24 ≤ counted self.old.length byte)) }
     {
         self.read(alloc, byte)?;
         if self.length > 0 || !is_white_space(byte) {
@@ -147,9 +148,11 @@ impl Reader {
     fn read_apart(&mut self, alloc: Global, byte: u8) -> Result<(), TextFault>
         requires valid { IsValid (reader_of self.old) }
         requires few { HasFew (2 ^ 24 - 1) (reader_of self.old).nest.frames }
-        ensures ok { OnOk result (option_and_then (λ n. begun n byte) (settled (nest_of self.old.nest) (token_of self.old.token)) ≡ Some (reader_of self.new)) }
+        ensures ok { OnOk result
+            (option_and_then (λ n. token_begun n byte) (settled (nest_of self.old.nest) (token_of self.old.token)) ≡ Some (reader_of self.new)) }
         ensures length { self.new.length ≡ self.old.length }
-        ensures not_yet { IsErrOf result TextFault.NotYet → option_and_then (λ n. begun n byte) (settled (nest_of self.old.nest) (token_of self.old.token)) ≡ None }
+        ensures not_yet { IsErrOf result TextFault.NotYet
+            → option_and_then (λ n. token_begun n byte) (settled (nest_of self.old.nest) (token_of self.old.token)) ≡ None }
     {
         self.end_token(alloc)?;
         self.begin_token(alloc, byte)
@@ -179,9 +182,9 @@ impl Reader {
         requires none { token_of self.old.token ≡ no_token }
         requires valid { ValidFrames (nest_of self.old.nest).frames }
         requires few { HasFew (2 ^ 24) (nest_of self.old.nest).frames }
-        ensures ok { OnOk result (begun (nest_of self.old.nest) byte ≡ Some (reader_of self.new)) }
+        ensures ok { OnOk result (token_begun (nest_of self.old.nest) byte ≡ Some (reader_of self.new)) }
         ensures length { self.new.length ≡ self.old.length }
-        ensures not_yet { IsErrOf result TextFault.NotYet → begun (nest_of self.old.nest) byte ≡ None }
+        ensures not_yet { IsErrOf result TextFault.NotYet → token_begun (nest_of self.old.nest) byte ≡ None }
     {
         match byte {
             b'{' => self.nest.open(alloc, Bracket::Tuple),

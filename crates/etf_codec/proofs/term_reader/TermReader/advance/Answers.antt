@@ -1,7 +1,7 @@
 use Rattle.std.proofs.Common.{refl}
 use Rattle.etf_codec.specs.declared.term_reader.Stage.TheVariants.{Part}
 use Rattle.etf_codec.proofs.ReaderSteps.{integer_comes, number_whole, number_forward}
-use Rattle.etf_codec.proofs.term_reader.TermReader.step.Goals as goal
+use Rattle.etf_codec.proofs.term_reader.TermReader.advance.Goals as goal
 
 pub complete-requires-clause-part : goal.complete-requires-clause-part
 complete-requires-clause-part c =
