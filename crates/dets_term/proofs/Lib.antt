@@ -9,3 +9,4 @@ pub mod KeysAscend
 pub mod Texts
 pub mod Fronts
 pub mod BitOrder
+pub mod SortedPairs

@@ -22,3 +22,5 @@ pub use Rattle.term_model.specs.PairSorts
 pub use Rattle.term_model.specs.Limits
 pub mod PairFalls
 pub mod NodeFalls
+pub mod PairOrder
+pub mod Building

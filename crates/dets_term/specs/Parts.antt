@@ -1,5 +1,5 @@
 -- The deepest of a list of terms or of pairs; then lemmas on a chain of terms as a list, its depth and its limits.
-use Rattle.std.specs.Prelude.{◌≡◌, ℕ, zero, suc, ◌+◌, ◌*◌, ◌<◌, ◌≤◌, ◌^◌, true, false, cond, max, List, [], ◌∷◌, ◌++◌, map, length, refl, slice_get, Some}
+use Rattle.std.specs.Prelude.{◌≡◌, ℕ, zero, suc, ◌+◌, ◌*◌, ◌<◌, ◌≤◌, ◌^◌, Bool, true, false, cond, max, List, [], ◌∷◌, ◌++◌, map, length, refl, slice_get, Some}
 use Rattle.std.specs.List.{AllByRecursion}
 use Rattle.std.proofs.Common.{arith, ap, ◌∙◌}
 use denote.Param.Weighed.{most}
@@ -46,6 +46,18 @@ parts_depth-improper [] tail h e = absurd (omega arith)
 parts_depth-improper (t ∷ []) tail h e = ap (λ b. max (depth t) (cond b (parts_depth tail) (suc (parts_depth tail)))) e ∙ omega arith
 parts_depth-improper (t ∷ u ∷ ts) tail h e =
     let rest = parts_depth-improper (u ∷ ts) tail (omega arith) e in omega arith
+
+below : (b : Bool) (n : ℕ) → cond b n (suc n) ≤ suc n
+below true n = omega arith
+below false n = omega arith
+
+depth-list : (ts : List TermValue) (tail : TermValue) → parts_depth (chain ts tail) ≤ max (deepest ts) (depth tail)
+depth-list [] tail = omega arith
+depth-list (t ∷ []) tail = omega (arith, below (is_list tail) (parts_depth tail))
+depth-list (t ∷ u ∷ ts) tail = omega (arith, depth-list (u ∷ ts) tail)
+
+pub depth-list_of : (ts : List TermValue) (tail : TermValue) (levels : ℕ) → deepest ts ≤ levels → depth tail ≤ levels → depth (chain ts tail) ≤ suc levels
+depth-list_of ts tail levels h k = omega (arith, depth-list ts tail, h, k)
 
 pub elements-chain : (ts : List TermValue) → elements (chain ts nil) ≡ ts
 elements-chain [] = refl

@@ -7,6 +7,7 @@
 
 pub use byte_list::ByteList;
 pub use hash::hash_bytes;
+pub use map_pairs::MapPairs;
 pub use order::{cmp, eq};
 pub use pair_list::PairList;
 pub use std::alloc::AllocError as Memory;
@@ -21,6 +22,7 @@ pub use text::Text;
 mod byte_list;
 mod comparing;
 mod hash;
+mod map_pairs;
 mod order;
 mod pair_list;
 mod term;

@@ -1,4 +1,4 @@
-ghost use Rattle.std.specs.Prelude.{suc, ◌≡◌, ◌<◌, ◌*◌, ◌+◌, ◌↔◌, false, length, IfOk, IfErr, OnErr, IsErrOf, ◌⊎◌};
+ghost use Rattle.std.specs.Prelude.{suc, ◌≡◌, ◌<◌, ◌*◌, ◌+◌, ◌↔◌, false, cond, nat_lt, length, Ok, Err, IfOk, IfErr, OnErr, IsErrOf, ◌⊎◌};
 ghost use Rattle.std.specs.Option.{option_copied};
 ghost use Rattle.std.specs.Str.{chars};
 ghost use Rattle.term_model.specs.TermValue.{integer, atom, tuple, nil, chain, elements, is_list, depth, key};
@@ -7,7 +7,7 @@ ghost use Rattle.term_model.specs.BitString.{MayUse};
 ghost use Rattle.term_model.specs.Pairs.{map_built};
 ghost use Rattle.dets_term.specs.Parts.{deepest, AreTerms};
 ghost use Rattle.dets_term.specs.Node.{shown, IsSound};
-ghost use Rattle.term_model.specs.declared.term_fault.TermFault.TheVariants.{Memory as OutOfMemory};
+ghost use Rattle.term_model.specs.declared.term_fault.TermFault.TheVariants.{LongAtom, Memory as OutOfMemory};
 
 use crate::text::char_count;
 use crate::{ByteList, Memory, PairList, TermFault, TermList, Text};
@@ -95,11 +95,25 @@ impl Term {
         })
     }
 
+    /// The same of a text that was gathered for it. It takes no memory.
+    pub fn atom_of(name: Text) -> Result<Term, TermFault>
+        ensures { result ≡ cond (nat_lt 255 (length name)) (Err LongAtom) (Ok (atom name)) }
+    {
+        if char_count(name.as_str()) > MAX_ATOM {
+            return Err(TermFault::LongAtom);
+        }
+        Ok(Term {
+            node: Node::Atom(name),
+            levels: 1,
+        })
+    }
+
     /// `ManyParts` from 2^32 parts on, then `Depth` above 256 levels.
-    pub fn tuple(parts: TermList) -> Result<Term, TermFault>
+    pub fn tuple(mut parts: TermList) -> Result<Term, TermFault>
         ensures { result ≡ built (length parts) (tuple (chain parts nil)) }
     {
         let levels = levels_above(&parts)?;
+        parts.shrink_to_fit();
         Ok(Term {
             node: Node::Tuple(parts),
             levels,
@@ -107,10 +121,11 @@ impl Term {
     }
 
     /// `ManyParts` from 2^32 parts on, then `Depth` above 256 levels.
-    pub fn list(parts: TermList) -> Result<Term, TermFault>
+    pub fn list(mut parts: TermList) -> Result<Term, TermFault>
         ensures { result ≡ built (length parts) (chain parts nil) }
     {
         let levels = levels_above(&parts)?;
+        parts.shrink_to_fit();
         Ok(Term {
             node: Node::List(parts),
             levels,

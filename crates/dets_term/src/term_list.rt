@@ -87,6 +87,13 @@ impl TermList {
         self.items.get(place)
     }
 
+    /// Gives back room for terms that are not there.
+    pub(crate) fn shrink_to_fit(&mut self)
+        ensures { self.new ≡ self.old }
+    {
+        self.items.shrink_to_fit();
+    }
+
     /// The greatest depth among the terms, 0 where there is none.
     pub(crate) fn levels(&self) -> u32
         ensures value { result ≡ deepest self.now }

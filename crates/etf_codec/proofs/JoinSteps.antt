@@ -19,7 +19,7 @@ use Rattle.etf_codec.specs.Joins.{JoinsWithin}
 use Rattle.etf_codec.specs.Machine.{resume, reading_at}
 use Rattle.etf_codec.specs.Begun.{PartsFit, PairsFit, FrameFits, PartFits, MayBegin}
 use Rattle.etf_codec.proofs.Built.{one_made}
-use Rattle.etf_codec.proofs.PairOrder.{length-placed, deepest-placed, map_built-within, depth-map_of}
+use Rattle.dets_term.specs.PairOrder.{length-placed, deepest-placed, map_built-within, depth-map_of}
 use Rattle.etf_codec.proofs.Resuming.{element_more, item_more, item_last, value_more}
 
 -- ---- limits

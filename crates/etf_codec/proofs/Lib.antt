@@ -11,8 +11,6 @@ pub mod CanonicalParts
 pub mod CanonicalLists
 pub mod Built
 pub mod Bodies
-pub mod PairOrder
-pub mod SortedPairs
 pub mod TermSteps
 pub mod Decodings
 pub mod GoOn

@@ -4,7 +4,7 @@ use Rattle.std.proofs.Common.{◌∙◌, inl, inr, arith}
 use Rattle.std.specs.Prelude.{IfErr}
 use Rattle.dets_term.specs.TermValue.{TermValue, tuple, nil, chain, elements, is_list, parts_depth, depth}
 use Rattle.dets_term.specs.IsTerm.{built}
-use Rattle.dets_term.specs.Parts.{deepest, parts_depth-chain}
+use Rattle.dets_term.specs.Parts.{deepest, parts_depth-chain, depth-list_of}
 use Rattle.dets_term.specs.Limits.{built-within}
 use Rattle.etf_model.specs.declared.fault.EtfFault.{EtfFault}
 use Rattle.etf_model.specs.Format.{Position, Reading, byte, go_on}
@@ -47,18 +47,6 @@ pub list_none : (levels term n : ℕ) (position next : Position) → (count leve
     → (list_of (part_at levels) (tail_at levels) levels).read term position ≡ no_tail.read term next
 list_none levels term n position next e none =
     go_on_ok _ _ _ _ (e ∙ ap (λ k. Ok (k, next)) none) ∙ again (no_tail.read term next)
-
-below : (b : Bool) (n : ℕ) → cond b n (suc n) ≤ suc n
-below true n = omega arith
-below false n = omega arith
-
-depth-list : (ts : List TermValue) (tail : TermValue) → parts_depth (chain ts tail) ≤ max (deepest ts) (depth tail)
-depth-list [] tail = omega arith
-depth-list (t ∷ []) tail = omega (arith, below (is_list tail) (parts_depth tail))
-depth-list (t ∷ u ∷ ts) tail = omega (arith, depth-list (u ∷ ts) tail)
-
-pub depth-list_of : (ts : List TermValue) (tail : TermValue) (levels : ℕ) → deepest ts ≤ levels → depth tail ≤ levels → depth (chain ts tail) ≤ suc levels
-depth-list_of ts tail levels h k = omega (arith, depth-list ts tail, h, k)
 
 pub length-list_of : (ts : List TermValue) (tail : TermValue) → elements tail ≡ [] → length (elements (chain ts tail)) ≡ length ts
 length-list_of [] tail alone = ap length alone

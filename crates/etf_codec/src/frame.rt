@@ -1,5 +1,4 @@
-use crate::map_pairs::MapPairs;
-use dets_term::{Term, TermList};
+use dets_term::{MapPairs, Term, TermList};
 
 /// Which part of a begun term is read next, and what stands before it.
 #[derive(Drop)]

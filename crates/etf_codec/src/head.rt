@@ -8,9 +8,8 @@ use crate::big_integer::BigInteger;
 use crate::cursor::Cursor;
 use crate::frame::Frame;
 use crate::leaves::{read_leaf, read_no_tail};
-use crate::map_pairs::MapPairs;
 use crate::strings::read_string;
-use dets_term::{PairList, Term, TermList, within_limits};
+use dets_term::{MapPairs, PairList, Term, TermList, within_limits};
 use etf_model::tags::{LARGE_BIG, LARGE_TUPLE, LIST, MAP, SMALL_BIG, SMALL_TUPLE, STRING};
 use std::alloc::Global;
 

@@ -6,8 +6,7 @@ ghost use Rattle.etf_codec.specs.declared.frame.Frame.TheVariants.{Element, Item
 
 use crate::EtfFault;
 use crate::frame::{Begun, Frame};
-use crate::map_pairs::MapPairs;
-use dets_term::{Term, TermList, within_limits};
+use dets_term::{MapPairs, Term, TermList, within_limits};
 use std::alloc::Global;
 
 /// A begun term with one more part.

@@ -23,7 +23,6 @@ mod frame;
 mod head;
 mod joining;
 mod leaves;
-mod map_pairs;
 mod numbers;
 mod skipping;
 mod strings;

@@ -2,7 +2,8 @@ use Rattle.std.proofs.Common.{◌+◌, ◌≤◌, arith, sym, ap, ◌∙◌}
 use Rattle.dets_term.specs.declared.TermFault.TheVariants.{Memory}
 use Rattle.dets_term.specs.TermValue.{chain, depth}
 use Rattle.etf_codec.specs.Machine.{resume}
-use Rattle.etf_codec.proofs.TermSteps.{built_list, depth-list_of, IfErr-either, or_else}
+use Rattle.dets_term.specs.Parts.{depth-list_of}
+use Rattle.etf_codec.proofs.TermSteps.{built_list, IfErr-either, or_else}
 use Rattle.etf_codec.proofs.JoinSteps.{list_fits, one_made_or}
 use Rattle.etf_codec.proofs.joining.join_tail.Goals as goal
 

@@ -2,7 +2,7 @@ use Rattle.std.proofs.Common.{◌+◌, ◌≤◌, arith, sym, ap, ◌∙◌}
 use Rattle.dets_term.specs.TermValue.{depth, elements}
 use Rattle.etf_codec.specs.Machine.{resume}
 use Rattle.etf_codec.proofs.Built.{IfErr-ok, one_made}
-use Rattle.etf_codec.proofs.PairOrder.{depth-map_of}
+use Rattle.dets_term.specs.PairOrder.{depth-map_of}
 use Rattle.etf_codec.proofs.JoinSteps.{pairs_more, pairs_last, part_fits, may_begin_key, value_goes_on, values_end, map_made}
 use Rattle.etf_codec.proofs.joining.join_value.Goals as goal
 

@@ -15,7 +15,8 @@ pub invariant_of-result : goal.invariant_of-result
 invariant_of-result c =
     let limits = limited_ok (length c.args.parts) (suc (deepest c.args.parts)) _ _ (sym c.in_ok-levels.ensures.levels) in
     let levels = ap suc (parts_depth-chain c.args.parts) in
-    (sym limits.2 ∙ sym levels, record { shallow = rw levels limits.1; bounded = IsBounded-chain c.args.parts limits.0 c.in_ok-levels.ensures.terms }, tt)
+    rw c.shrink_to_fit.ensures (sym limits.2 ∙ sym levels, record { shallow = rw levels limits.1; bounded = IsBounded-chain c.args.parts limits.0 c.in_ok-levels.ensures.terms }, tt)
 
 pub returns : goal.returns
-returns c = built_ok (length c.args.parts) _ (deepest c.args.parts) (chain c.args.parts nil) (parts_depth-chain c.args.parts) c.in_ok-levels.ensures.levels
+returns c = rw c.shrink_to_fit.ensures (built_ok (length c.args.parts) _ (deepest c.args.parts) (chain c.args.parts nil) (parts_depth-chain c.args.parts)
+    c.in_ok-levels.ensures.levels)

@@ -14,7 +14,8 @@ returns-in_err-levels c =
 pub invariant_of-result : goal.invariant_of-result
 invariant_of-result c =
     let limits = limited_ok (length c.args.parts) (suc (deepest c.args.parts)) _ _ (sym c.in_ok-levels.ensures.levels) in
-    let levels = ap suc (parts_depth-chain c.args.parts) in (
+    let levels = ap suc (parts_depth-chain c.args.parts) in
+    rw c.shrink_to_fit.ensures (
       sym limits.2 ∙ sym levels,
       record {
         shallow = rw levels limits.1;
@@ -24,5 +25,5 @@ invariant_of-result c =
     )
 
 pub returns : goal.returns
-returns c = built_ok (length c.args.parts) _ (deepest c.args.parts) (tuple (chain c.args.parts nil)) (parts_depth-chain c.args.parts)
-    c.in_ok-levels.ensures.levels
+returns c = rw c.shrink_to_fit.ensures (built_ok (length c.args.parts) _ (deepest c.args.parts) (tuple (chain c.args.parts nil))
+    (parts_depth-chain c.args.parts) c.in_ok-levels.ensures.levels)

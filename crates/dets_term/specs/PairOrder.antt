@@ -2,13 +2,13 @@
 use Rattle.std.proofs.Common.{◌≡◌, ℕ, suc, ◌<◌, ◌≤◌, ◌^◌, max, Bool, true, false, cond, ◌&&◌, List, [], ◌∷◌, length, Ok, Err, nat_lt, refl, ap, ◌∙◌, arith}
 use Rattle.std.proofs.lemmas.Bool.Decides.{nat_tests}
 use Rattle.std.specs.Ordering.{is_lt}
-use Rattle.dets_term.specs.declared.TermFault.TheVariants.{RepeatedKey}
-use Rattle.dets_term.specs.TermValue.{TermValue, map_of, depth}
-use Rattle.dets_term.specs.IsTerm.{built}
-use Rattle.dets_term.specs.Order.{order}
-use Rattle.dets_term.specs.Pairs.{keys, placed, by_key, repeats, map_built}
+use Rattle.term_model.specs.declared.term_fault.TermFault.TheVariants.{RepeatedKey}
+use Rattle.term_model.specs.TermValue.{TermValue, map_of, depth}
+use Rattle.term_model.specs.IsTerm.{built}
+use Rattle.term_model.specs.Order.{order}
+use Rattle.term_model.specs.Pairs.{keys, placed, by_key, repeats, map_built}
 use Rattle.dets_term.specs.Parts.{deepest_of_pairs, parts_depth-map_of}
-use Rattle.dets_term.specs.Limits.{built-within}
+use Rattle.term_model.specs.Limits.{built-within}
 
 placed_lt : (p x : TermValue × TermValue) (xs : List (TermValue × TermValue)) → is_lt (order p.0 x.0) ≡ true → placed p (x ∷ xs) ≡ p ∷ x ∷ xs
 placed_lt p x xs e = ap (λ b. cond b (p ∷ x ∷ xs) (x ∷ placed p xs)) e

@@ -1,9 +1,9 @@
 use Rattle.std.proofs.Common.{◌∙◌, ap}
 use Rattle.std.specs.List.{list_any}
-use Rattle.dets_term.specs.Order.{is_same}
-use Rattle.dets_term.specs.Pairs.{keys}
-use Rattle.etf_codec.proofs.SortedPairs.{lookup-keys}
-use Rattle.etf_codec.proofs.map_pairs.MapPairs.has_key.Goals as goal
+use Rattle.term_model.specs.Order.{is_same}
+use Rattle.term_model.specs.Pairs.{keys}
+use Rattle.dets_term.proofs.SortedPairs.{lookup-keys}
+use Rattle.dets_term.proofs.map_pairs.MapPairs.has_key.Goals as goal
 
 pub returns : goal.returns
 returns c =

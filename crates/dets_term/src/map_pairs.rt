@@ -1,25 +1,24 @@
 ghost use Rattle.std.specs.Prelude.{◌≡◌, List, [], false, OnOk, OnErr, IfOk};
 ghost use Rattle.std.specs.List.{list_any};
-ghost use Rattle.dets_term.specs.IsTerm.{AreAscending};
-ghost use Rattle.dets_term.specs.Order.{is_same};
-ghost use Rattle.dets_term.specs.Pairs.{keys, placed};
+ghost use Rattle.term_model.specs.IsTerm.{AreAscending};
+ghost use Rattle.term_model.specs.Order.{is_same};
+ghost use Rattle.term_model.specs.Pairs.{keys, placed};
 
-use crate::Memory;
-use dets_term::{PairList, Term};
+use crate::{Memory, PairList, Term};
 use std::alloc::Global;
 use std::collections::BTreeMap;
 use std::marker::Model;
 
 /// The pairs of a map that were read so far, by ascending key.
 #[derive(Drop)]
-pub(crate) struct MapPairs {
+pub struct MapPairs {
     sorted: BTreeMap<Term, Term>,
 }
 
 impl Model for MapPairs {
     ghost use Rattle.std.specs.Prelude.{List};
     ghost use Rattle.std.specs.Coded.{coded_list, coded×};
-    ghost use Rattle.dets_term.specs.TermValue.{TermValue};
+    ghost use Rattle.term_model.specs.TermValue.{TermValue};
     ghost use Rattle.dets_term.specs.TermCode.{coded_term};
 
     ghost Value = { List (TermValue × TermValue) };
@@ -31,7 +30,7 @@ impl Model for MapPairs {
 
 impl MapPairs {
     /// No pair. It takes no memory yet.
-    pub(crate) fn new(alloc: Global) -> MapPairs
+    pub fn new(alloc: Global) -> MapPairs
         ensures { result ≡ [] }
     {
         MapPairs {
@@ -40,14 +39,14 @@ impl MapPairs {
     }
 
     /// Whether one of the keys is this one.
-    pub(crate) fn has_key(&self, key: &Term) -> bool
+    pub fn has_key(&self, key: &Term) -> bool
         ensures { result ≡ list_any (is_same key.now) (keys self.now) }
     {
         self.sorted.contains_key(key)
     }
 
     /// Puts a pair among these by its key. After `Memory` they are as they were.
-    pub(crate) fn insert(&mut self, key: Term, value: Term) -> Result<(), Memory>
+    pub fn insert(&mut self, key: Term, value: Term) -> Result<(), Memory>
         requires { list_any (is_same key) (keys self.old) ≡ false }
         ensures ok { OnOk result (self.new ≡ placed (key, value) self.old) }
         ensures err { OnErr result (self.new ≡ self.old) }
@@ -57,7 +56,7 @@ impl MapPairs {
     }
 
     /// All pairs by ascending key.
-    pub(crate) fn into_pairs(self, alloc: Global) -> Result<PairList, Memory>
+    pub fn into_pairs(self, alloc: Global) -> Result<PairList, Memory>
         ensures pairs { IfOk result (λ pairs. pairs ≡ self) }
         ensures ascending { AreAscending (keys self) }
     {

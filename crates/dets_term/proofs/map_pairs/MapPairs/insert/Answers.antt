@@ -1,9 +1,9 @@
 use Rattle.std.proofs.Common.{◌∙◌, ap, subst, sym, ◌≡◌, false}
 use Rattle.std.specs.List.{list_any}
-use Rattle.dets_term.specs.Order.{is_same}
-use Rattle.dets_term.specs.Pairs.{keys, placed}
-use Rattle.etf_codec.proofs.SortedPairs.{insert_entry-placed}
-use Rattle.etf_codec.proofs.map_pairs.MapPairs.insert.Goals as goal
+use Rattle.term_model.specs.Order.{is_same}
+use Rattle.term_model.specs.Pairs.{keys, placed}
+use Rattle.dets_term.proofs.SortedPairs.{insert_entry-placed}
+use Rattle.dets_term.proofs.map_pairs.MapPairs.insert.Goals as goal
 
 pub returns-clause-ok : goal.returns-clause-ok
 returns-clause-ok c =

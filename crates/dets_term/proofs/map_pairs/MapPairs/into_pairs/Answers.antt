@@ -1,8 +1,8 @@
 use Rattle.std.proofs.Common.{subst}
-use Rattle.dets_term.specs.IsTerm.{AreAscending}
-use Rattle.dets_term.specs.Pairs.{keys}
-use Rattle.etf_codec.proofs.SortedPairs.{sorted-ascending}
-use Rattle.etf_codec.proofs.map_pairs.MapPairs.into_pairs.Goals as goal
+use Rattle.term_model.specs.IsTerm.{AreAscending}
+use Rattle.term_model.specs.Pairs.{keys}
+use Rattle.dets_term.proofs.SortedPairs.{sorted-ascending}
+use Rattle.dets_term.proofs.map_pairs.MapPairs.into_pairs.Goals as goal
 
 pub returns-in_err-push-clause-ascending : goal.returns-in_err-push-clause-ascending
 returns-in_err-push-clause-ascending c =

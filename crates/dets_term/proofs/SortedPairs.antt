@@ -7,10 +7,10 @@ use Rattle.std.specs.BTreeMap.{is_at, insert_entry}
 use Rattle.std.specs.declared.cmp.Ordering.{Ordering}
 use Rattle.std.specs.declared.cmp.Ordering.TheVariants.{Less, Equal, Greater}
 use Rattle.std.specs.Ordering.{is_eq, is_lt, match_ordering}
-use Rattle.dets_term.specs.TermValue.{TermValue}
-use Rattle.dets_term.specs.IsTerm.{Precedes, AreAscending}
-use Rattle.dets_term.specs.Order.{order, is_same}
-use Rattle.dets_term.specs.Pairs.{keys, placed}
+use Rattle.term_model.specs.TermValue.{TermValue}
+use Rattle.term_model.specs.IsTerm.{Precedes, AreAscending}
+use Rattle.term_model.specs.Order.{order, is_same}
+use Rattle.term_model.specs.Pairs.{keys, placed}
 
 -- a key is there where its value is found
 pub lookup-keys : (k : TermValue) (es : List (TermValue × TermValue)) → is_some (lookup (is_at (order k)) es) ≡ list_any (is_same k) (keys es)

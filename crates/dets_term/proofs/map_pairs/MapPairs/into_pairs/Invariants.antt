@@ -1,5 +1,5 @@
 use Rattle.std.proofs.Common.{◌≡◌, ◌++◌}
-use Rattle.etf_codec.proofs.map_pairs.MapPairs.into_pairs.Given as goal
+use Rattle.dets_term.proofs.map_pairs.MapPairs.into_pairs.Given as goal
 
 -- the pairs that were moved and those that are left
 abbrev pub invariant-loop-pair : goal.invariant-loop-pair
