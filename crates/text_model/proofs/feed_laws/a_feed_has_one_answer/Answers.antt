@@ -1,0 +1,5 @@
+use Rattle.text_model.proofs.Streams.{one_answer}
+use Rattle.text_model.proofs.feed_laws.a_feed_has_one_answer.Goals as goal
+
+pub returns : goal.returns
+returns c = one_answer
