@@ -1,0 +1,40 @@
+-- The nests of the machine that the code shows.
+use Rattle.std.specs.Prelude.{pos, List, map, reverse, flat_map}
+use Rattle.dets_term.specs.BitString.{byte_bits}
+use Rattle.text_model.specs.Grammar.{last_bits}
+use Rattle.text_model.specs.Nest.{Frame, in_tuple, in_list, in_tail, in_map, in_value, in_bits, Begun, Place, want, opened, after, value, colon}
+use Rattle.text_model.specs.Nest.{segment, sized, stopped, Nest}
+use Rattle.text_nest.specs.declared.nest.Open.{Open}
+use Rattle.text_nest.specs.declared.nest.Open.TheVariants.{Tuple, Elements, Tail, Pairs, Value, Bits}
+use Rattle.text_nest.specs.declared.nest.Start.{Start}
+use Rattle.text_nest.specs.declared.nest.NestPlace.{NestPlace}
+use Rattle.text_nest.specs.declared.nest.NestPlace.TheVariants.{Want, Opened, After, Number, Colon, Segment, Sized, Stopped}
+use Rattle.text_nest.specs.declared.nest.Nest.{Nest as Kept}
+
+abbrev pub frame_of : Open → Frame
+frame_of (Tuple parts) = in_tuple parts
+frame_of (Elements parts) = in_list parts
+frame_of (Tail parts) = in_tail parts
+frame_of (Pairs pairs) = in_map pairs
+frame_of (Value pairs key) = in_value pairs key
+frame_of (Bits bytes) = in_bits (flat_map byte_bits bytes)
+
+abbrev pub begun_of : Start → Begun
+begun_of s = record { start = s.at; frame = frame_of s.term }
+
+abbrev pub place_of : NestPlace → Place
+place_of Want = want
+place_of Opened = opened
+place_of (After start term) = after start term
+place_of (Number start v) = value start (pos v)
+place_of (Colon start v) = colon start (pos v)
+place_of Segment = segment
+place_of (Sized last) = sized (last_bits last.count (pos last.value))
+place_of (Stopped term) = stopped term
+
+-- the innermost term stands last in the code, and first here
+abbrev pub begun_terms : List Start → List Begun
+begun_terms starts = reverse (map begun_of starts)
+
+abbrev pub nest_of : Kept → Nest
+nest_of n = record { begun = begun_terms n.begun.items; place = place_of n.place }
