@@ -7,7 +7,7 @@ use hex::FromHexError;
 use host_model::{DiskFailed, OutFailed, SourceFailed};
 use std::alloc::AllocError;
 use std::num::ParseIntError;
-use term_text::TextFault;
+use term_text::{TextFault, TextWhy};
 use thiserror::Error;
 
 /// What is answered in the place of a value.
@@ -22,8 +22,9 @@ pub enum Fault {
     Term(#[from] TermFault),
     #[error("{0:?}")]
     Spelling(#[from] EtfFault),
-    #[error("{0:?}")]
-    Text(#[from] TextFault),
+    /// The rule that is broken, and its offset.
+    #[error("{0:?}({1})")]
+    Text(TextWhy, u64),
     #[error("{0:?}")]
     Machine(#[from] Stop),
     #[error("failed")]
@@ -32,6 +33,15 @@ pub enum Fault {
     Output(#[from] OutFailed),
     #[error("failed")]
     Source(#[from] SourceFailed),
+}
+
+impl From<TextFault> for Fault {
+    fn from(error: TextFault) -> Fault {
+        match error {
+            TextFault::Syntax(offset, why) => Fault::Text(why, offset),
+            TextFault::Memory => Fault::Memory(AllocError),
+        }
+    }
 }
 
 impl From<FromHexError> for Fault {

@@ -51,7 +51,7 @@ impl Feed for TermFeed {
 }
 
 impl Feed for TextFeed {
-    ghost use Rattle.term_text.specs.FeedState.{total as text_total};
+    ghost use Rattle.text_model.specs.TextFeed.{total as text_total};
 
     ghost fed = { text_total };
 

@@ -4,13 +4,13 @@ use Rattle.std.proofs.Common.{option_map, IfSome, Result, Ok, Err, OnOk, refl, a
 use Rattle.std.proofs.lemmas.List.{take-append-drop}
 use Rattle.std.proofs.lemmas.Bool.Decides.{nat_tests}
 use Rattle.dets_term.specs.TermValue.{TermValue}
-use Rattle.term_text.specs.FeedState.{FeedState}
+use Rattle.text_model.specs.TextFeed.{TextFeed}
 use Rattle.host_model.specs.Source.{Stream, after_read}
 use Rattle.host_model.specs.Host.{Shown}
 use Rattle.dets_tool.specs.declared.script.Script.{Script}
 use Rattle.dets_tool.specs.declared.status.Status.{Status}
 use Rattle.dets_tool.specs.declared.status.Status.TheVariants.{Done, Input, WordsRefused, SourceFault, Output, Memory, NotYet}
-use Rattle.dets_tool.specs.declared.status.InputWhy.TheVariants.{TooMuch}
+use Rattle.dets_tool.specs.declared.status.InputWhy.TheVariants.{TooMuch, Text}
 use Rattle.dets_tool.specs.declared.input_feed.PullFault.{PullFault}
 use Rattle.dets_tool.specs.declared.input_feed.PullFault.TheVariants.{SourceFault as SourceFailed, TooMuch as PastBudget}
 use Rattle.dets_tool.specs.InputFeed.{InputFeedValue, GivesPiece, Ends, Pulled}
@@ -101,7 +101,7 @@ pull_fails PastBudget input old new before after said here h w p =
     let after_is : after ≡ Some (record { left = drop 1 h.left; ended = false }) = p.taken ∙ ap (option_map (after_read 1)) h.told in
     let some : 0 < length h.left = subst (λ (o : Option Stream). IfSome o (λ s. 0 < length s.left)) h.told p.more in
     subst (λ (o : Option Stream). Ran (Input (2 ^ 32) TooMuch) input o said here.said) (sym after_is)
-    (ran_too_much h.bytes (take 1 h.left) (drop 1 h.left) input said TooMuch here h.served w
+    (ran_too_much h.bytes (take 1 h.left) (drop 1 h.left) input said here h.served w
     (record {
       taken = h.split ∙ ap (λ l. h.bytes ++ l) (sym (take-append-drop 1 h.left));
       within = omega (arith, h.budget);
@@ -159,22 +159,23 @@ no_input stream now said e f =
 
 -- the last commands, behind the end of the input
 pub input_ends : (result : Result Unit Status) (input : List ℕ) (old new : InputFeedValue) (before after : Option Stream) (said : Option (List ℕ))
-    (script then : Script) (closed : FeedState) (host now : Shown)
+    (script then : Script) (closed : TextFeed) (host now : Shown)
     → HasTaken input old.room before said (standing script host) → Ends old new before after → closed ≡ record script.text { finished = true }
     → OnOk result (IsWaiting closed.finished then.text.left) → ServesOrBreaks result closed.finished (standing (record script { text = closed }) host) then now
     → Ran (status_of_run result) input after said now.said
 input_ends (Ok done) input old new before after said script then closed host now h p e w s =
     input_done input old new before after said (standing script host) (standing then now) h p
-    (subst (λ (t : FeedState). Serves t.finished (standing (record script { text = t }) host) (standing then now)) e s.served)
-    (subst (λ (t : FeedState). IsWaiting t.finished then.text.left) e w)
+    (subst (λ (t : TextFeed). Serves t.finished (standing (record script { text = t }) host) (standing then now)) e s.served)
+    (subst (λ (t : TextFeed). IsWaiting t.finished then.text.left) e w)
 input_ends (Err status) input old new before after said script then closed host now h p e w s =
     input_breaks status input old new before after said now.said (standing script host) h p
-    (subst (λ (t : FeedState). Breaks status t.finished (standing (record script { text = t }) host) now.said) e s.breaks)
+    (subst (λ (t : TextFeed). Breaks status t.finished (standing (record script { text = t }) host) now.said) e s.breaks)
 
 -- what ends a run at a command or a text
 abbrev EndsService : Status → Type 0
 EndsService Done = ⊥
-EndsService (Input offset why) = ⊥
+EndsService (Input offset TooMuch) = ⊥
+EndsService (Input offset (Text why)) = Unit {0}
 EndsService WordsRefused = ⊥
 EndsService SourceFault = ⊥
 EndsService Output = Unit {0}
@@ -186,7 +187,7 @@ ends_service status finished old now b = by_stop status b.stops
   where
     unserved : (status : Status) (t : TermValue) → IsUnserved status b.here t now → EndsService status
     unserved Done t u = u
-    unserved (Input offset why) t u = u
+    unserved (Input offset why) t u = absurd u
     unserved WordsRefused t u = u
     unserved SourceFault t u = u
     unserved Output t u = tt
@@ -195,7 +196,7 @@ ends_service status finished old now b = by_stop status b.stops
 
     by_stop : (status : Status) → Stops finished b.here now status → EndsService status
     by_stop status (at_command _ t n next u) = unserved status t u
-    by_stop _ (at_text a o) = tt
+    by_stop _ (at_text offset why a o) = tt
     by_stop _ (at_memory o) = tt
 
 -- so it is no fault of the source, and no refusal of words

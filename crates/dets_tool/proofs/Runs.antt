@@ -1,29 +1,28 @@
 -- What a run has come to where it ends.
 use Rattle.std.proofs.Common.{◌≡◌, ℕ, ◌+◌, ◌<◌, ◌≤◌, ◌^◌, Bool, true, false, List, [], ◌∷◌, ◌++◌, length, length-append, take, drop, Option, Some, None}
-use Rattle.std.proofs.Common.{option_map, Ok, Err, inl, inr, refl, ap, ◌∙◌, sym, subst, append_assoc, append-nil, arith}
+use Rattle.std.proofs.Common.{option_map, ◌⊎◌, inl, inr, refl, ap, ◌∙◌, sym, subst, append_assoc, append-nil, arith}
 use Rattle.std.proofs.lemmas.List.{take-append-drop}
 use Rattle.std.specs.Option.{option_map_or}
 use Rattle.dets_term.specs.TermValue.{TermValue}
-use Rattle.term_text.specs.Next.{IsNext}
-use Rattle.term_text.specs.Script.{Rest, blank, may_go_on, faulty, Placed, IsScript, answer, Answers}
-use Rattle.etf_model.specs.declared.fed.Fed.TheVariants.{Again, End as EndOfText}
-use Rattle.term_text.specs.declared.feed.TextFault.TheVariants.{NotYet as NotYetText}
-use Rattle.term_text.proofs.Scripts.{script_behind, AreNext-script}
-use Rattle.term_text.proofs.Existence.{script_exists}
+use Rattle.text_model.specs.declared.fault.TextWhy.{TextWhy}
+use Rattle.text_model.specs.Sentence.{IsNext}
+use Rattle.text_model.specs.Script.{Rest, blank, may_go_on, fault, moved, no_term, Placed, IsAnswer, IsScript}
+use Rattle.text_model.specs.ScriptFronts.{bytes_of, AreNext-script}
+use Rattle.text_model.proofs.Scripts.{script_exists, script_behind}
 use Rattle.run_model.specs.State.{State, first_state}
 use Rattle.run_model.specs.Step.{step, replies}
 use Rattle.host_model.specs.Source.{Stream}
 use Rattle.host_model.specs.Host.{SaysFront}
 use Rattle.dets_tool.specs.declared.status.Status.{Status}
 use Rattle.dets_tool.specs.declared.status.Status.TheVariants.{Done, Input, WordsRefused, SourceFault, Output, Memory, NotYet}
-use Rattle.dets_tool.specs.declared.status.InputWhy.{InputWhy}
+use Rattle.dets_tool.specs.declared.status.InputWhy.TheVariants.{TooMuch, Text}
 use Rattle.dets_tool.specs.Run.{reply_line, reply_text, terms_of, Outcome, replies_of, HasWrittenAll, GoesOn, IsEndOf, Ran}
 use Rattle.dets_tool.specs.Serving.{Standing, Serves, IsUnserved, Stops, at_command, at_text, at_memory, Breaks, IsWaiting}
 use Rattle.dets_tool.proofs.Serving.{said_nothing, said_both, reply_text-append, terms_of-append, terms_of-length}
 
 -- a run that has taken these bytes, and served no command yet
 abbrev pub taken : List ℕ → Option (List ℕ) → Standing
-taken bytes said = record { left = bytes; state = first_state; replied = 0; said = said }
+taken bytes said = record { left = bytes; offset = 0; state = first_state; replied = 0; said = said }
 
 -- what was taken of the input: these bytes, those of a read past the budget, and what is left
 pub record Took (finished : Bool) (bytes past left input : List ℕ) : Type 0 where
@@ -58,7 +57,7 @@ outcome finished bytes said e past left = record {
   left = left;
   ended = finished;
   commands = terms_of (e.served.commands ++ e.placed);
-  rest = e.rest;
+  rest = moved (bytes_of e.served.commands) e.rest;
   written = reply_text e.served.answers ++ e.part;
 }
 
@@ -117,40 +116,26 @@ abbrev no_more : (finished : Bool) (bytes : List ℕ) (said : Option (List ℕ))
     → IsScript finished here.left [] rest → End_of finished bytes said
 no_more finished bytes said here s rest script = record { here = here; served = s; placed = []; rest = rest; script = script; part = [] }
 
+-- what breaks no rule does not, whatever stands before it
+unbroken : (n : ℕ) (rest : Rest) → (rest ≡ blank) ⊎ (rest ≡ may_go_on) → (moved n rest ≡ blank) ⊎ (moved n rest ≡ may_go_on)
+unbroken n rest (inl e) = inl (ap (moved n) e)
+unbroken n rest (inr e) = inr (ap (moved n) e)
+
 goes_on : (bytes : List ℕ) (said : Option (List ℕ)) (here : Standing) (s : Serves false (taken bytes said) here) (rest : Rest)
     (script : IsScript false here.left [] rest) (past left : List ℕ)
-    → answer false rest ≡ Ok Again → GoesOn (outcome false bytes said (no_more false bytes said here s rest script) past left)
+    → (rest ≡ blank) ⊎ (rest ≡ may_go_on) → GoesOn (outcome false bytes said (no_more false bytes said here s rest script) past left)
 goes_on bytes said here s rest script past left e =
     let end = no_more false bytes said here s rest script in record {
       written = all_written false bytes said end past left refl refl;
       all = omega (arith, replies_count false bytes said end past left refl, commands_count false bytes said end past left);
-      open_end = e;
+      open_end = refl;
+      unbroken = unbroken (bytes_of s.commands) rest e;
     }
 
--- while more input may come, an answer that waits is that more is needed
-awaited : (left : List ℕ) → IsWaiting false left → (rest : Rest) × (IsScript false left [] rest × (answer false rest ≡ Ok Again))
-awaited left (inl a) = (a.rest, (a.script, sym a.given))
-awaited left (inr a) = absurd (no_end a.rest a.given)
-  where
-    no_end : (r : Rest) → Ok EndOfText ≡ answer false r → ⊥
-    no_end blank e = cc
-    no_end may_go_on e = cc
-    no_end faulty e = cc
-
--- and at its end that there is none
-awaited_end : (left : List ℕ) → IsWaiting true left → (rest : Rest) × (IsScript true left [] rest × (rest ≡ blank))
-awaited_end left (inl a) = absurd (no_again a.rest a.given)
-  where
-    no_again : (r : Rest) → Ok Again ≡ answer true r → ⊥
-    no_again blank e = cc
-    no_again may_go_on e = cc
-    no_again faulty e = cc
-awaited_end left (inr a) = (a.rest, (a.script, blank_end a.rest a.given))
-  where
-    blank_end : (r : Rest) → Ok EndOfText ≡ answer true r → r ≡ blank
-    blank_end blank e = refl
-    blank_end may_go_on e = cc
-    blank_end faulty e = cc
+-- while more input may come, what waits breaks no rule
+awaited : (left : List ℕ) → IsWaiting false left → (rest : Rest) × (IsScript false left [] rest × ((rest ≡ blank) ⊎ (rest ≡ may_go_on)))
+awaited left (inl a) = (blank, (a, inl refl))
+awaited left (inr a) = (may_go_on, (a, inr refl))
 
 pub ran_source_fault : (bytes left input : List ℕ) (said : Option (List ℕ)) (here : Standing) → Serves false (taken bytes said) here → IsWaiting false here.left
     → Took false bytes [] left input → Ran SourceFault input (Some (record { left = left; ended = false })) said here.said
@@ -159,26 +144,25 @@ ran_source_fault bytes left input said here s w t =
     made SourceFault false bytes [] left input said here.said (no_more false bytes said here s a.0 a.1.0) [] refl (said_nothing here.said) t
     (refl, goes_on bytes said here s a.0 a.1.0 [] left a.1.1)
 
-pub ran_too_much : (bytes past left input : List ℕ) (said : Option (List ℕ)) (why : InputWhy) (here : Standing) → Serves false (taken bytes said) here
+pub ran_too_much : (bytes past left input : List ℕ) (said : Option (List ℕ)) (here : Standing) → Serves false (taken bytes said) here
     → IsWaiting false here.left
-    → Took false bytes past left input → 0 < length past → Ran (Input (2 ^ 32) why) input (Some (record { left = left; ended = false })) said here.said
-ran_too_much bytes past left input said why here s w t p =
+    → Took false bytes past left input → 0 < length past → Ran (Input (2 ^ 32) TooMuch) input (Some (record { left = left; ended = false })) said here.said
+ran_too_much bytes past left input said here s w t p =
     let a = awaited here.left w in
-    made (Input (2 ^ 32) why) false bytes past left input said here.said (no_more false bytes said here s a.0 a.1.0) [] refl (said_nothing here.said) t
+    made (Input (2 ^ 32) TooMuch) false bytes past left input said here.said (no_more false bytes said here s a.0 a.1.0) [] refl (said_nothing here.said) t
     (refl, p, goes_on bytes said here s a.0 a.1.0 past left a.1.1)
 
 pub ran_done : (bytes input : List ℕ) (said : Option (List ℕ)) (here : Standing) → Serves true (taken bytes said) here → IsWaiting true here.left
     → Took true bytes [] [] input → Ran Done input (Some (record { left = []; ended = true })) said here.said
 ran_done bytes input said here s w t =
-    let a = awaited_end here.left w in
-    let end = no_more true bytes said here s a.0 a.1.0 in
+    let end = no_more true bytes said here s blank w in
     made Done true bytes [] [] input said here.said end [] refl (said_nothing here.said) t (
       refl,
       record {
         written = all_written true bytes said end [] [] refl refl;
         all = omega (arith, replies_count true bytes said end [] [] refl, commands_count true bytes said end [] []);
         ended = refl;
-        blank_rest = a.1.1;
+        blank_rest = refl;
       },
     )
 
@@ -189,8 +173,8 @@ script_from : (finished : Bool) (left : List ℕ) (t : TermValue) (n : ℕ) → 
     → (others : List Placed) × ((rest : Rest) × IsScript finished left (record { term = t; bytes = n } ∷ others) rest)
 script_from finished left t n next =
     let all = script_exists finished left in
-    let on = script_behind finished left t n all.0 all.1.0 next all.1.1 in
-    (on.0, (all.1.0, (next, on.2)))
+    let on = script_behind finished left t n all.0 all.1 next all.2 in
+    (on.0, (all.1, (next, (on.1, on.3, on.4))))
 
 -- the end where a command stands in front of what is left
 abbrev at_next : (finished : Bool) (bytes : List ℕ) (said : Option (List ℕ)) (here : Standing) → Serves finished (taken bytes said) here
@@ -236,21 +220,22 @@ ran_unserved (NotYet number) finished bytes left input said now here s t n next 
       record {
         written = all_written finished bytes said end [] left refl none;
         replied_to = omega (arith, u.0, s.replied, s.all, replies_count finished bytes said end [] left none);
-        next = inl (omega (arith, u.0, s.replied, s.all, commands_count finished bytes said end [] left));
+        next = omega (arith, u.0, s.replied, s.all, commands_count finished bytes said end [] left);
       },
     )
 
 ran_at_text : (finished : Bool) (bytes left input : List ℕ) (said now : Option (List ℕ)) (here : Standing) → Serves finished (taken bytes said) here
-    → Answers finished here.left (Err NotYetText)
-    → now ≡ here.said → Took finished bytes [] left input → Ran (NotYet here.replied) input (Some (record { left = left; ended = finished })) said now
-ran_at_text finished bytes left input said now here s a o i =
-    let end = no_more finished bytes said here s a.rest a.script in
-    made (NotYet here.replied) finished bytes [] left input said now end [] refl (o ∙ said_nothing here.said) i (
+    → (offset : ℕ) (why : TextWhy) → IsAnswer finished here.left (no_term (fault offset why))
+    → now ≡ here.said → Took finished bytes [] left input
+    → Ran (Input (here.offset + offset) (Text why)) input (Some (record { left = left; ended = finished })) said now
+ran_at_text finished bytes left input said now here s offset why a o i =
+    let end = no_more finished bytes said here s (fault offset why) a in
+    made (Input (here.offset + offset) (Text why)) finished bytes [] left input said now end [] refl (o ∙ said_nothing here.said) i (
       refl,
       record {
         written = all_written finished bytes said end [] left refl refl;
-        replied_to = omega (arith, s.replied, s.all, replies_count finished bytes said end [] left refl);
-        next = inr (omega (arith, s.replied, s.all, commands_count finished bytes said end [] left), sym a.given);
+        all = omega (arith, replies_count finished bytes said end [] left refl, commands_count finished bytes said end [] left);
+        broken = ap (λ n. fault n why) (let e : bytes_of s.commands + offset ≡ here.offset + offset = omega (arith, s.offset) in e);
       },
     )
 
@@ -258,7 +243,7 @@ pub ran_memory : (finished : Bool) (bytes left input : List ℕ) (said now : Opt
     → now ≡ here.said → Took finished bytes [] left input → Ran Memory input (Some (record { left = left; ended = finished })) said now
 ran_memory finished bytes left input said now here s o i =
     let all = script_exists finished here.left in
-    made Memory finished bytes [] left input said now (record { here = here; served = s; placed = all.0; rest = all.1.0; script = all.1.1; part = [] })
+    made Memory finished bytes [] left input said now (record { here = here; served = s; placed = all.0; rest = all.1; script = all.2; part = [] })
     (reply_text (replies here.state (terms_of all.0))) refl (o ∙ said_nothing here.said) i tt
 
 pub ran_break : (status : Status) (finished : Bool) (bytes left input : List ℕ) (said now : Option (List ℕ)) → Breaks status finished (taken bytes said) now
@@ -267,7 +252,7 @@ ran_break status finished bytes left input said now b i = by_stop status b.stops
   where
     by_stop : (status : Status) → Stops finished b.here now status → Ran status input (Some (record { left = left; ended = finished })) said now
     by_stop status (at_command _ t n next u) = ran_unserved status finished bytes left input said now b.here b.served t n next u i
-    by_stop _ (at_text a o) = ran_at_text finished bytes left input said now b.here b.served a o i
+    by_stop _ (at_text offset why a o) = ran_at_text finished bytes left input said now b.here b.served offset why a o i
     by_stop _ (at_memory o) = ran_memory finished bytes left input said now b.here b.served o i
 
 -- a run that has no memory left at its end has done no more

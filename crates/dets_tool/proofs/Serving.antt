@@ -1,19 +1,25 @@
 -- How a run goes on, step by step.
-use Rattle.std.proofs.Common.{◌≡◌, ℕ, Bool, false, List, [], ◌∷◌, ◌++◌, length, length-append, Option, Some, None, option_map, refl, ap, ◌∙◌, sym, subst}
+use Rattle.std.proofs.Common.{◌≡◌, ℕ, ◌+◌, Bool, false, List, [], ◌∷◌, ◌++◌, length, length-append, Option, Some, None}
+use Rattle.std.proofs.Common.{option_map, Result, Ok, refl, ap, ◌∙◌, sym, subst}
 use Rattle.std.proofs.Common.{append_assoc, append-nil, arith}
 use Rattle.std.specs.Option.{option_map_or}
 use Rattle.dets_term.specs.TermValue.{TermValue}
-use Rattle.term_text.specs.FeedState.{FeedState}
-use Rattle.term_text.specs.Next.{IsNext}
-use Rattle.term_text.specs.Script.{Placed, AreNext, behind}
-use Rattle.term_text.proofs.Scripts.{AreNext-append, behind-append, AreNext-more}
+use Rattle.etf_model.specs.declared.fed.Fed.{Fed}
+use Rattle.etf_model.specs.declared.fed.Fed.TheVariants.{Again, End}
+use Rattle.text_model.specs.declared.fault.TextFault.{TextFault}
+use Rattle.text_model.specs.Sentence.{IsNext}
+use Rattle.text_model.specs.Script.{Placed}
+use Rattle.text_model.specs.ScriptFronts.{AreNext, behind, AreNext-append, behind-append, bytes_of-append}
+use Rattle.text_model.specs.TextFeed.{TextFeed, Gives, gives_behind, IsNextOf}
+use Rattle.text_model.proofs.ScriptFronts.{AreNext-more}
+use Rattle.host_model.specs.Host.{Shown}
 use Rattle.run_model.specs.State.{State}
 use Rattle.run_model.specs.Step.{replies}
 use Rattle.dets_tool.specs.declared.script.Script.{Script}
 use Rattle.dets_tool.specs.declared.status.Status.{Status}
 use Rattle.dets_tool.specs.declared.status.Status.TheVariants.{Done, Input, WordsRefused, SourceFault, Output, Memory, NotYet}
 use Rattle.dets_tool.specs.Run.{reply_line, reply_text, terms_of}
-use Rattle.dets_tool.specs.Serving.{Standing, Serves, Replies, IsUnserved, Breaks, IsReady}
+use Rattle.dets_tool.specs.Serving.{Standing, standing, Serves, Replies, IsUnserved, Breaks, IsWaiting, IsReady}
 
 -- ---- output
 
@@ -47,6 +53,7 @@ Serves-none finished here = record {
   answers = [];
   next = tt;
   left = refl;
+  offset = omega arith;
   served = λ _. refl;
   all = refl;
   replied = omega arith;
@@ -54,10 +61,11 @@ Serves-none finished here = record {
 }
 
 -- where no text was taken
-pub Serves-same : (finished : Bool) (left : List ℕ) (here : Standing) → left ≡ here.left → Serves finished here (record here { left = left })
-Serves-same finished left here e = rw e (Serves-none finished here)
+pub Serves-same : (finished : Bool) (text : TextFeed) (script : Script) (host : Shown) → text ≡ script.text
+    → Serves finished (standing script host) (standing (record script { text = text }) host)
+Serves-same finished text script host e = rw e (Serves-none finished (standing script host))
 
-pub IsReady-same : (finished : Bool) (text : FeedState) (script : Script) → text ≡ script.text → IsReady finished script
+pub IsReady-same : (finished : Bool) (text : TextFeed) (script : Script) → text ≡ script.text → IsReady finished script
     → IsReady finished (record script { text = text })
 IsReady-same finished text script e r = rw e r
 
@@ -67,6 +75,7 @@ Serves-append finished a b c s t = record {
   answers = s.answers ++ t.answers;
   next = AreNext-append finished a.left s.commands t.commands s.next (subst (λ (l : List ℕ). AreNext finished l t.commands) s.left t.next);
   left = t.left ∙ ap (behind t.commands) s.left ∙ sym (behind-append a.left s.commands t.commands);
+  offset = omega (arith, s.offset, t.offset, bytes_of-append s.commands t.commands);
   served =
       λ more.
       ap (replies a.state) (ap (λ l. l ++ more) (terms_of-append s.commands t.commands) ∙ append_assoc (terms_of s.commands) (terms_of t.commands) more)
@@ -79,13 +88,15 @@ Serves-append finished a b c s t = record {
 }
 
 -- one command more, behind its text
-pub Serves-one : (finished : Bool) (old new : Standing) (left : List ℕ) (t : TermValue) (taken : ℕ) → IsNext finished old.left t taken
-    → left ≡ behind (record { term = t; bytes = taken } ∷ []) old.left → Replies (record old { left = left }) new t → Serves finished old new
-Serves-one finished old new left t taken n e r = record {
+pub Serves-one : (finished : Bool) (old new : Standing) (left : List ℕ) (offset : ℕ) (t : TermValue) (taken : ℕ) → IsNext finished old.left t taken
+    → left ≡ behind (record { term = t; bytes = taken } ∷ []) old.left → offset ≡ old.offset + taken
+    → Replies (record old { left = left; offset = offset }) new t → Serves finished old new
+Serves-one finished old new left offset t taken n e f r = record {
   commands = record { term = t; bytes = taken } ∷ [];
   answers = r.reply ∷ [];
   next = (n, tt);
   left = r.left ∙ e;
+  offset = omega (arith, r.offset, f);
   served = λ more. ap (λ o. option_map_or (λ (served : TermValue × State). served.0 ∷ replies served.1 more) o []) r.step;
   all = refl;
   replied = r.replied;
@@ -101,6 +112,7 @@ Serves-more finished a b more s =
       answers = s.answers;
       next = still.0;
       left = ap (λ l. l ++ more) s.left ∙ sym still.1;
+      offset = s.offset;
       served = s.served;
       all = s.all;
       replied = s.replied;
@@ -108,15 +120,15 @@ Serves-more finished a b more s =
     }
 
 -- why a command was not served does not depend on the text
-pub IsUnserved-left : (status : Status) (here : Standing) (left : List ℕ) (t : TermValue) (now : Option (List ℕ))
-    → IsUnserved status (record here { left = left }) t now → IsUnserved status here t now
-IsUnserved-left Done here left t now u = u
-IsUnserved-left (Input offset why) here left t now u = u
-IsUnserved-left WordsRefused here left t now u = u
-IsUnserved-left SourceFault here left t now u = u
-IsUnserved-left Output here left t now u = u
-IsUnserved-left Memory here left t now u = u
-IsUnserved-left (NotYet number) here left t now u = u
+pub IsUnserved-left : (status : Status) (here : Standing) (left : List ℕ) (offset : ℕ) (t : TermValue) (now : Option (List ℕ))
+    → IsUnserved status (record here { left = left; offset = offset }) t now → IsUnserved status here t now
+IsUnserved-left Done here left offset t now u = u
+IsUnserved-left (Input at why) here left offset t now u = u
+IsUnserved-left WordsRefused here left offset t now u = u
+IsUnserved-left SourceFault here left offset t now u = u
+IsUnserved-left Output here left offset t now u = u
+IsUnserved-left Memory here left offset t now u = u
+IsUnserved-left (NotYet number) here left offset t now u = u
 
 -- a run that breaks behind commands that were served
 pub Breaks-behind : (status : Status) (finished : Bool) (a b : Standing) (now : Option (List ℕ)) → Serves finished a b → Breaks status finished b now
@@ -133,3 +145,18 @@ Breaks-on status finished then a b now e s f = Breaks-behind status finished a b
 
 pub IsReady-on : (finished then : Bool) (script : Script) → then ≡ finished → IsReady then script → IsReady finished script
 IsReady-on finished then script e r = subst (λ (f : Bool). IsReady f script) e r
+
+-- what a feed without a fault answers
+pub gives_now : (old new : TextFeed) (answer like : Result Fed TextFault) → old.fault ≡ None → IsNextOf old new answer → answer ≡ like
+    → Gives old new like
+gives_now old new answer like e g is =
+    subst (λ (r : Result Fed TextFault). Gives old new r) is (subst (λ (f : Option TextFault). gives_behind f old new answer) e g)
+
+-- where no term is given, what is left waits
+pub waits_on : (old new : TextFeed) → Gives old new (Ok Again) → IsWaiting old.finished new.left
+waits_on old new g =
+    subst (λ (t : TextFeed). IsWaiting old.finished t.left) (sym g.2) (subst (λ (b : Bool). IsWaiting b old.left) (sym g.0) g.1)
+
+pub waits_at_end : (old new : TextFeed) → Gives old new (Ok End) → IsWaiting old.finished new.left
+waits_at_end old new g =
+    subst (λ (t : TextFeed). IsWaiting old.finished t.left) (sym g.2) (subst (λ (b : Bool). IsWaiting b old.left) (sym g.0) g.1)

@@ -1,15 +1,15 @@
 -- What a run of a script comes to: the bytes that it takes, their commands, the replies, and what is written at its
 -- end. All of it is this project's own.
 use mathlib.Core.List.{IsPrefix}
-use Rattle.std.specs.Prelude.{◌≡◌, ℕ, ◌<◌, ◌≤◌, ◌^◌, Bool, true, List, [], ◌∷◌, ◌++◌, length, Option, Some, option_map, Ok, Err, codes, ◌⊎◌}
+use Rattle.std.specs.Prelude.{◌≡◌, ℕ, ◌<◌, ◌≤◌, ◌^◌, Bool, true, false, List, [], ◌∷◌, ◌++◌, length, Option, Some, option_map, codes, ◌⊎◌}
 use Rattle.dets_term.specs.TermValue.{TermValue}
-use Rattle.term_text.specs.Printed.{printed}
-use Rattle.term_text.specs.Script.{Rest, blank, Placed, IsScript, answer}
-use Rattle.etf_model.specs.declared.fed.Fed.TheVariants.{Again}
-use Rattle.term_text.specs.declared.feed.TextFault.TheVariants.{NotYet as NotYetText}
+use Rattle.text_model.specs.declared.fault.TextWhy.{TextWhy}
+use Rattle.text_model.specs.Printed.{printed}
+use Rattle.text_model.specs.Script.{Rest, blank, may_go_on, fault, Placed, IsScript}
 use Rattle.run_model.specs.State.{first_state}
 use Rattle.run_model.specs.Step.{replies}
 use Rattle.host_model.specs.Source.{Stream}
+use Rattle.dets_tool.specs.declared.status.InputWhy.TheVariants.{TooMuch, Text}
 use Rattle.dets_tool.specs.declared.status.Status.{Status}
 use Rattle.dets_tool.specs.declared.status.Status.TheVariants.{Done, Input, WordsRefused, SourceFault, Output, Memory, NotYet}
 
@@ -35,7 +35,7 @@ pub record Outcome : Type 0 where
   pub left : List ℕ
   -- whether a read answered 0
   pub ended : Bool
-  -- the commands of the bytes taken, and what stands behind them
+  -- the commands of the bytes taken, and what stands behind them, with its offset counted from the first of these bytes
   pub commands : List TermValue
   pub rest : Rest
   pub written : List ℕ
@@ -52,17 +52,25 @@ HasWrittenAll c = c.written ≡ reply_text (replies_of c)
 abbrev pub HasRepliedToAll : Outcome → Type 0
 HasRepliedToAll c = length (replies_of c) ≡ length c.commands
 
--- each command was replied to, and more of the input may come
+-- each command was replied to, more of the input may come, and what stands behind the commands breaks no rule so far
 pub record GoesOn (c : Outcome) : Type 0 where
   pub written : HasWrittenAll c
   pub all : HasRepliedToAll c
-  pub open_end : answer c.ended c.rest ≡ Ok Again
+  pub open_end : c.ended ≡ false
+  pub unbroken : (c.rest ≡ blank) ⊎ (c.rest ≡ may_go_on)
 
--- so many commands were replied to, and what stands behind them is not built
+-- Each command was replied to, and what stands behind them breaks this rule of printed terms. The offset is counted from the
+-- start of the input.
+pub record BreaksRule (offset : ℕ) (why : TextWhy) (c : Outcome) : Type 0 where
+  pub written : HasWrittenAll c
+  pub all : HasRepliedToAll c
+  pub broken : c.rest ≡ fault offset why
+
+-- so many commands were replied to, and the next one is not built
 pub record IsNotBuilt (replied : ℕ) (c : Outcome) : Type 0 where
   pub written : HasWrittenAll c
   pub replied_to : replied ≡ length (replies_of c)
-  pub next : (replied < length c.commands) ⊎ ((replied ≡ length c.commands) × (answer c.ended c.rest ≡ Err NotYetText))
+  pub next : replied < length c.commands
 
 -- each command was replied to, and the input was read to its end
 pub record IsDone (c : Outcome) : Type 0 where
@@ -74,7 +82,8 @@ pub record IsDone (c : Outcome) : Type 0 where
 -- what each status says of the run
 abbrev pub IsEndOf : Status → Outcome → Type 0
 IsEndOf Done c = (c.past ≡ []) × IsDone c
-IsEndOf (Input offset why) c = (offset ≡ 2 ^ 32) × (0 < length c.past) × GoesOn c
+IsEndOf (Input offset TooMuch) c = (offset ≡ 2 ^ 32) × (0 < length c.past) × GoesOn c
+IsEndOf (Input offset (Text why)) c = (c.past ≡ []) × BreaksRule offset why c
 IsEndOf WordsRefused c = ⊥
 IsEndOf SourceFault c = (c.past ≡ []) × GoesOn c
 IsEndOf Output c = c.past ≡ []

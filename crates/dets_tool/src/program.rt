@@ -16,9 +16,11 @@ use std::{env, str};
 
 /// Does what the words ask for: `run FILE` reads a script from the source and puts the reply to each command,
 /// with a full stop and a line end, in one piece. `Done`: the input was read to its end, and each of its commands
-/// replied to. `NotYet`: so many commands were replied to, and the next text or command is not built. `Input`: a
-/// read gave a byte past 4,294,967,296. `SourceFault`, `Output`: a read or a put failed. `WordsRefused`: the words
-/// are not `run FILE`. Before the end of a run by `Output` or `Memory` a front of the replies is put.
+/// replied to. `NotYet`: so many commands were replied to, and the next one is not built. `Input`: with `TooMuch`, a
+/// read gave a byte past 4,294,967,296; with `Text`, each command in front was replied to, and what stands behind
+/// them breaks this rule of printed terms, whose offset is counted from the start of the input. `SourceFault`,
+/// `Output`: a read or a put failed. `WordsRefused`: the words are not `run FILE`. Before the end of a run by `Output`
+/// or `Memory` a front of the replies is put.
 pub fn dets_main<S: Source, H: Host>(
     alloc: Global,
     words: &Words,

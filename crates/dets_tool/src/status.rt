@@ -7,6 +7,7 @@ use crate::Memory;
 use dets_term::ByteList;
 use itoa::Buffer;
 use std::alloc::Global;
+use term_text::TextWhy;
 
 /// How a run ends.
 #[derive(Drop)]
@@ -32,6 +33,8 @@ pub enum Status {
 pub enum InputWhy {
     /// It has more bytes than are read.
     TooMuch,
+    /// It breaks this rule of printed terms.
+    Text(TextWhy),
 }
 
 impl From<Memory> for Status {

@@ -1,9 +1,10 @@
 -- What is left to print of a list's elements from a place on, and how deep an element is.
-use Rattle.std.proofs.Common.{◌≡◌, ℕ, zero, suc, ◌+◌, ◌*◌, ◌<◌, ◌≤◌, false, List, [], ◌∷◌, ◌++◌, map, length, Some, None, slice_get, flat_map, refl, ap, ◌∙◌, sym, append_assoc, arith}
+use Rattle.std.proofs.Common.{◌≡◌, ℕ, zero, suc, ◌+◌, ◌*◌, ◌<◌, ◌≤◌, false, List, [], ◌∷◌, ◌++◌, map, length, Some, None, slice_get, flat_map, refl}
+use Rattle.std.proofs.Common.{ap, ◌∙◌, sym, append_assoc, arith}
 use Rattle.std.specs.List.{join_by, zip}
 use Rattle.dets_term.specs.TermValue.{TermValue, integer, atom, tuple, mapping, nil, cons, bits, chain, map_of, is_list, parts_depth, depth}
 use Rattle.dets_term.specs.Parts.{deepest, deepest_of_pairs, parts_depth-chain, parts_depth-map_of, parts_depth-improper}
-use Rattle.term_text.specs.Printed.{printed_pair, printed, printed_elements, printed_after, printed_each}
+use Rattle.text_model.specs.Printed.{printed_pair, printed, printed_elements, printed_after, printed_each}
 
 -- what is left after the first element, from the place after it on
 abbrev pub left_after : List ℕ → ℕ → List TermValue → List ℕ

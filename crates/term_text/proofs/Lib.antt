@@ -1,29 +1,17 @@
--- Lemmas that several proofs share.
-pub mod Frames
-pub mod Limits
+-- ---- printing
 pub mod Plain
 pub mod Elements
-pub mod Forward
-pub mod Terms
-pub mod Sentences
-pub mod Readings
-pub mod HasRead
-pub mod NestTokens
-pub mod Spelling
-pub mod Backward
-pub mod Reaching
-pub mod Soundness
-pub mod Lengths
-pub mod Completion
-pub mod Rests
-pub mod Failing
-pub mod Scripts
-pub mod FeedOrder
-pub mod Existence
-pub mod PrintedText
-pub mod PrintedBytes
-pub mod Computing
-pub mod Texts
-pub mod Refusals
 pub mod Joined
 pub mod PrintedBits
+-- ---- what is read keeps within the limits of terms
+pub mod FitSequences
+pub mod FitLexemes
+pub mod FitQuotes
+pub mod FitSteps
+pub mod QuotedFits
+-- ---- tokens that are begun
+pub mod EscapeDigits
+pub mod SequencesTold
+-- ---- the reader and the feed
+pub mod ReaderSteps
+pub mod FeedSteps

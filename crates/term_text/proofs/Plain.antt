@@ -7,7 +7,8 @@ use Rattle.std.proofs.lemmas.Str.Ascii.{IsAscii-nil, IsAscii-cons}
 use Rattle.std.specs.Str.{chars, IsAscii, IsUtf8}
 use Rattle.std.specs.List.{list_all}
 use Rattle.std.specs.Char.{is_ascii_lowercase}
-use Rattle.term_text.specs.Printed.{is_name_character, is_plain_atom, is_reserved, is_unquoted, quoted_atom, printed_atom}
+use Rattle.text_model.specs.Token.{is_name_character, is_plain_atom}
+use Rattle.text_model.specs.Printed.{is_reserved, is_unquoted, quoted_atom, printed_atom}
 
 both_true : (a b : Bool) → (a && b) ≡ true → (a ≡ true) × (b ≡ true)
 both_true true b e = (refl, e)

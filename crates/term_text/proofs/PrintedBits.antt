@@ -1,10 +1,11 @@
 -- The printed form of a bit string by its bytes.
-use Rattle.std.proofs.Common.{◌≡◌, ℕ, zero, suc, ◌+◌, ◌-◌, ◌*◌, ◌/◌, ◌%◌, ◌^◌, ◌<◌, ◌≤◌, Bool, true, false, cond, List, [], ◌∷◌, ◌++◌, map, length, get_or, take, flat_map, refl, ap, ◌∙◌, sym, subst, arith}
+use Rattle.std.proofs.Common.{◌≡◌, ℕ, zero, suc, ◌+◌, ◌-◌, ◌*◌, ◌/◌, ◌%◌, ◌^◌, ◌<◌, ◌≤◌, Bool, true, false, cond, List, [], ◌∷◌, ◌++◌, map, length}
+use Rattle.std.proofs.Common.{get_or, take, flat_map, refl, ap, ◌∙◌, sym, subst, arith}
 use Rattle.std.proofs.lemmas.Bool.Decides.{nat_tests}
 use Rattle.std.specs.List.{AllByRecursion, join_by}
 use Rattle.std.specs.Fmt.{decimal}
 use Rattle.dets_term.specs.BitString.{is_odd, byte_bits, bits_of}
-use Rattle.term_text.specs.Printed.{number_of, octets, printed_segment}
+use Rattle.text_model.specs.Printed.{number_of, octets, printed_segment}
 use Rattle.term_text.proofs.Joined.{joined-last}
 
 -- ---- the bits of a byte by their number

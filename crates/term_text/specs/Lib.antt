@@ -1,14 +1,8 @@
--- ---- cited by public contracts
-pub mod Printed
-pub mod IsPlain
-pub mod Token
-pub mod Next
-pub mod Script
-pub mod FeedState
--- ---- middles: the machine that reads byte by byte, and the code's reader as its states
-pub mod Machine
-pub mod Reading
+-- ---- middles: the code's reader as a state of the machine of text_model
+pub mod LexemeView
+pub mod StateFits
+pub mod Sequences
+pub mod Quoting
 pub mod ReaderView
-pub mod Valid
-pub mod Reaches
+pub mod FeedReads
 pub mod FeedInside

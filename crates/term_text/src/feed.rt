@@ -1,64 +1,43 @@
-ghost use Rattle.std.specs.Prelude.{◌≡◌, ◌<◌, ◌≤◌, ◌+◌, ◌^◌, ℕ, [], ◌++◌, ◌⊎◌, length, drop, true, false, IsTrue, OnOk, OnErr, vec_len};
-ghost use Rattle.dets_term.specs.TermValue.{TermValue};
-ghost use Rattle.term_text.specs.Token.{is_white, each};
-ghost use Rattle.term_text.specs.FeedState.{Takes, total};
-ghost use Rattle.term_text.specs.Next.{IsNext, ends};
-ghost use Rattle.term_text.specs.Script.{Answers};
-ghost use Rattle.term_text.specs.declared.feed.TextFault.TheVariants.{Memory as OutOfMemory};
+ghost use Rattle.std.specs.Prelude.{◌≡◌, ◌<◌, ◌≤◌, ◌+◌, ◌^◌, ℕ, [], ◌++◌, length, true, false, Option, Some, None, Ok, Err, OnOk, OnErr, IfOk};
+ghost use Rattle.text_model.specs.declared.fault.TextFault.TheVariants.{Syntax};
+ghost use Rattle.text_model.specs.declared.fault.TextWhy.{TextWhy};
+ghost use Rattle.text_model.specs.Sentence.{ends};
+ghost use Rattle.text_model.specs.Script.{fault, no_term, IsAnswer};
+ghost use Rattle.text_model.specs.TextFeed.{total, passed, failed, Gives, IsNextOf};
+ghost use Rattle.text_nest.specs.Strays.{is_stopped};
+ghost use Rattle.text_nest.specs.NestView.{nest_of};
+ghost use Rattle.term_text.specs.FeedReads.{HasRead, HasReadOn};
 
 use crate::Memory;
-use crate::reader::{Reader, is_white_space};
-use etf_model::Fed;
-use std::alloc::{AllocFailed, Global};
+use crate::reader::{Reader, is_white};
+use bytes::BytesMut;
+use std::alloc::Global;
 use std::marker::Model;
-
-/// Why a feed does not answer.
-#[derive(Clone, Copy, Debug, PartialEq, Eq)]
-pub enum TextFault {
-    /// Text that is not built yet, or no list of terms.
-    NotYet,
-    Memory,
-}
+use std::mem;
+use text_model::{Fed, TextFault, TextWhy};
 
 /// A stream of printed terms that comes in pieces.
 #[derive(Drop)]
 pub struct TextFeed {
     alloc: Global,
-    bytes: Vec<u8>,
-    // the bytes before it belong to terms that were taken
-    start: usize,
-    // the bytes before it went through the reader
-    read: usize,
-    // where the byte at `start` stands in the stream
+    /// The bytes that were fed and of which no term was taken yet.
+    left: BytesMut,
+    /// Where the first of them stands in the stream.
     offset: u64,
-    reader: Reader,
     finished: bool,
-    refused: bool,
-}
-
-impl From<Memory> for TextFault {
-    ghost from_gives = { λ _ e. e ≡ OutOfMemory };
-
-    fn from(_error: Memory) -> TextFault {
-        TextFault::Memory
-    }
-}
-
-impl<T: Drop> From<AllocFailed<T>> for TextFault {
-    ghost from_gives = { λ _ e. e ≡ OutOfMemory };
-
-    fn from(_error: AllocFailed<T>) -> TextFault {
-        TextFault::Memory
-    }
+    fault: Option<TextFault>,
+    /// What the first of them have come to.
+    reader: Reader,
+    /// How many of them it has read.
+    read: usize,
 }
 
 impl Model for TextFeed {
-    ghost use Rattle.std.specs.Prelude.{◌≤◌, ◌<◌, ◌+◌, ◌^◌, drop, length, vec_len};
-    ghost use Rattle.term_text.specs.FeedState.{FeedState};
+    ghost use Rattle.text_model.specs.TextFeed.{TextFeed as Feed};
 
-    ghost Value = { FeedState };
+    ghost Value = { Feed };
 
-    ghost view = { λ a. record { left = drop a.start a.bytes.items; offset = a.offset; finished = a.finished; refused = a.refused } };
+    ghost view = { λ a. record { left = a.left.items; offset = a.offset; finished = a.finished; fault = a.fault } };
 
     ghost use Rattle.term_text.specs.FeedInside.{IsInOrder};
 
@@ -66,18 +45,18 @@ impl Model for TextFeed {
 }
 
 impl TextFeed {
+    /// A stream of which nothing was fed yet.
     pub fn new(alloc: Global) -> TextFeed
-        ensures { result ≡ record { left = []; offset = 0; finished = false; refused = false } }
+        ensures { result ≡ record { left = []; offset = 0; finished = false; fault = None } }
     {
         TextFeed {
             alloc,
-            bytes: Vec::new(alloc),
-            start: 0,
-            read: 0,
+            left: BytesMut::new(alloc),
             offset: 0,
-            reader: Reader::new(alloc),
             finished: false,
-            refused: false,
+            fault: None,
+            reader: Reader::new(alloc),
+            read: 0,
         }
     }
 
@@ -88,13 +67,7 @@ impl TextFeed {
         ensures ok { OnOk result (self.new ≡ record self.old { left = self.old.left ++ piece.now }) }
         ensures err { OnErr result (self.new ≡ self.old) }
     {
-        // Each byte that is moved pays for one that was taken.
-        if self.start > self.bytes.len() - self.start {
-            drop_front(&mut self.bytes, self.start);
-            self.read -= self.start;
-            self.start = 0;
-        }
-        self.bytes.extend_from_slice(piece)?;
+        self.left.extend_from_slice(piece)?;
         Ok(())
     }
 
@@ -105,68 +78,129 @@ impl TextFeed {
         self.finished = true;
     }
 
-    /// The next term, where one is whole with its full stop; else whether more input is needed. `NotYet`
-    /// where no continuation of the input is a list of terms, the input ends inside a term, or 16,777,216
-    /// bytes from a term's first one on hold no full stop; it comes again at each later call. `Memory`
-    /// changes nothing.
+    /// The next term, where it stands in front of what is left with its full stop; else whether more input is needed. A
+    /// fault has the offset in the stream, and comes again at each later call; but `Memory` changes nothing.
     pub fn next(&mut self) -> Result<Fed, TextFault>
-        ensures term { (t : TermValue) → result ≡ Ok (Fed.Term t)
-            → (taken : ℕ) × Takes self.old self.new taken × IsNext self.old.finished self.old.left t taken }
-        ensures again { result ≡ Ok Fed.Again → (self.new ≡ self.old) × Answers self.old.finished self.old.left (Ok Fed.Again) }
-        ensures end { result ≡ Ok Fed.End → (self.new ≡ self.old) × Answers self.old.finished self.old.left (Ok Fed.End) }
-        ensures not_yet { result ≡ Err TextFault.NotYet → (self.new ≡ record self.old { refused = true })
-            × (self.old.refused ≡ true ⊎ Answers self.old.finished self.old.left (Err TextFault.NotYet)) }
-        ensures refused { IsTrue self.old.refused → result ≡ Err TextFault.NotYet }
-        ensures memory { result ≡ Err TextFault.Memory → self.new ≡ self.old }
+        ensures next { IsNextOf self.old self.new result }
         ensures keeps { (total self.new ≡ total self.old) × (self.new.finished ≡ self.old.finished) }
     {
-        if self.refused {
-            return Err(TextFault::NotYet);
+        match self.fault {
+            Some(fault) => Err(fault),
+            None => self.read_next(),
         }
-        let fed = self.read_on();
-        if matches!(fed, Err(TextFault::NotYet)) {
-            self.refused = true;
-        }
-        fed
     }
 
-    /// Reads what was fed and not read yet, and answers.
+    /// The same where no fault came yet.
+    fn read_next(&mut self) -> Result<Fed, TextFault>
+        ensures gives { Gives self.old self.new result }
+        ensures keeps { (total self.new ≡ total self.old) × (self.new.finished ≡ self.old.finished) }
+    {
+        match self.read_on() {
+            Ok(fed) => Ok(fed),
+            Err(TextFault::Memory) => Err(TextFault::Memory),
+            Err(TextFault::Syntax(at, why)) => Err(self.fail(at, why)),
+        }
+    }
+
+    /// Answers a fault from now on, whose offset is that in what is left.
+    fn fail(&mut self, at: u64, why: TextWhy) -> TextFault
+        requires { at ≤ length self.old.left }
+        ensures fault { result ≡ Syntax (self.old.offset + at) why }
+        ensures failed { self.new ≡ failed self.old (Syntax (self.old.offset + at) why) }
+    {
+        let fault = TextFault::Syntax(self.offset + at, why);
+        self.fault = Some(fault);
+        fault
+    }
+
+    /// Reads what was fed and not read yet, and answers. The offset of a fault is that in what is left, which will then be
+    /// read again from its first byte on.
     fn read_on(&mut self) -> Result<Fed, TextFault>
-        ensures term { (t : TermValue) → result ≡ Ok (Fed.Term t)
-            → (taken : ℕ) × Takes self.old self.new taken × IsNext self.old.finished self.old.left t taken }
-        ensures again { result ≡ Ok Fed.Again → (self.new ≡ self.old) × Answers self.old.finished self.old.left (Ok Fed.Again) }
-        ensures end { result ≡ Ok Fed.End → (self.new ≡ self.old) × Answers self.old.finished self.old.left (Ok Fed.End) }
-        ensures not_yet { result ≡ Err TextFault.NotYet → Answers self.old.finished self.old.left (Err TextFault.NotYet) }
+        ensures fed { (fed : Fed) → result ≡ Ok fed → Gives self.old self.new (Ok fed) }
+        ensures syntax { (o : ℕ) (why : TextWhy) → result ≡ Err (Syntax o why) → IsAnswer self.old.finished self.old.left (no_term (fault o why)) }
         ensures err { OnErr result (self.new ≡ self.old) }
         ensures keeps { (total self.new ≡ total self.old) × (self.new.finished ≡ self.old.finished) }
     {
-        match self.reader.run(self.alloc, &self.bytes[self.read..]) {
-            Ok(taken) => self.read += taken,
-            Err(fault) => {
-                // What is left will be read again from its first byte on.
-                self.read = self.start;
-                self.reader = Reader::new(self.alloc);
-                return Err(fault);
-            }
+        let read = mem::replace(&mut self.read, 0);
+        let mut reader = mem::replace(&mut self.reader, Reader::new(self.alloc));
+        match reader.run(self.alloc, &self.left.as_slice()[read..]) {
+            Ok(taken) => self.answer(reader, read + taken),
+            Err(fault) => Err(fault),
         }
-        if self.reader.is_stopped() {
-            match is_end(&self.bytes[self.read..], self.finished) {
-                None => Ok(Fed::Again),
-                Some(false) => Err(TextFault::NotYet),
-                Some(true) => {
-                    let term = self.reader.take_stopped();
-                    self.offset += (self.read - self.start) as u64;
-                    self.start = self.read;
+    }
+
+    /// What is answered where the reader has come so far.
+    fn answer(&mut self, reader: Reader, read: usize) -> Result<Fed, TextFault>
+        requires { HasReadOn self.old.left read reader }
+        ensures fed { (fed : Fed) → result ≡ Ok fed → Gives self.old self.new (Ok fed) }
+        ensures syntax { (o : ℕ) (why : TextWhy) → result ≡ Err (Syntax o why) → IsAnswer self.old.finished self.old.left (no_term (fault o why)) }
+        ensures err { OnErr result (self.new ≡ self.old) }
+        ensures keeps { (total self.new ≡ total self.old) × (self.new.finished ≡ self.old.finished) }
+    {
+        if reader.is_stopped() {
+            self.behind_stop(reader, read)
+        } else if !self.finished {
+            self.keep(reader, read);
+            Ok(Fed::Again)
+        } else if reader.is_blank() {
+            match reader.blank_fault() {
+                None => {
+                    self.keep(reader, read);
+                    Ok(Fed::End)
+                }
+                Some((at, why)) => Err(TextFault::Syntax(at, why)),
+            }
+        } else {
+            Err(reader.ended())
+        }
+    }
+
+    /// What is answered where a term and a full stop were read.
+    fn behind_stop(&mut self, reader: Reader, read: usize) -> Result<Fed, TextFault>
+        requires read { HasRead self.old.left read reader }
+        requires stopped { is_stopped (nest_of reader.nest).place ≡ true }
+        ensures fed { (fed : Fed) → result ≡ Ok fed → Gives self.old self.new (Ok fed) }
+        ensures syntax { (o : ℕ) (why : TextWhy) → result ≡ Err (Syntax o why) → IsAnswer self.old.finished self.old.left (no_term (fault o why)) }
+        ensures err { OnErr result (self.new ≡ self.old) }
+        ensures keeps { (total self.new ≡ total self.old) × (self.new.finished ≡ self.old.finished) }
+    {
+        match is_end(&self.left.as_slice()[read..], self.finished) {
+            None => {
+                self.keep(reader, read);
+                Ok(Fed::Again)
+            }
+            Some(false) => Err(TextFault::Syntax(
+                (read as u64).saturating_sub(1),
+                TextWhy::BadToken,
+            )),
+            Some(true) => match reader.into_term() {
+                Some(term) => {
+                    self.pass(read);
                     Ok(Fed::Term(term))
                 }
-            }
-        } else if !self.finished {
-            Ok(Fed::Again)
-        } else if self.reader.is_blank() {
-            Ok(Fed::End)
-        } else {
-            Err(TextFault::NotYet)
+                None => unreachable!(),
+            },
         }
+    }
+
+    /// Takes bytes from the front, of which nothing is read.
+    fn pass(&mut self, count: usize)
+        requires { count ≤ length self.old.left }
+        ensures { self.new ≡ passed self.old count }
+    {
+        self.left.advance(count);
+        self.offset += count as u64;
+        self.reader = Reader::new(self.alloc);
+        self.read = 0;
+    }
+
+    /// Keeps what was read for the next call.
+    fn keep(&mut self, reader: Reader, read: usize)
+        requires { HasRead self.old.left read reader }
+        ensures { self.new ≡ self.old }
+    {
+        self.reader = reader;
+        self.read = read;
     }
 }
 
@@ -175,17 +209,8 @@ fn is_end(rest: &[u8], finished: bool) -> Option<bool>
     ensures { result ≡ ends finished rest.now }
 {
     match rest.first() {
-        Some(byte) => Some(is_white_space(*byte) || *byte == b'%'),
+        Some(byte) => Some(is_white(*byte) || *byte == b'%'),
         None if finished => Some(true),
         None => None,
     }
-}
-
-/// Drops bytes from the front.
-fn drop_front(bytes: &mut Vec<u8>, count: usize)
-    requires { count ≤ vec_len bytes.old }
-    ensures { bytes.new.items ≡ drop count bytes.old.items }
-{
-    bytes.copy_within(count.., 0);
-    bytes.truncate(bytes.len() - count);
 }

@@ -1,7 +1,7 @@
 ghost use Rattle.std.specs.Prelude.{◌≡◌, ◌≤◌, ◌++◌, take, OnOk};
 ghost use Rattle.std.specs.Fmt.{decimal};
 ghost use Rattle.dets_term.specs.BitString.{byte_bits, bits_of, MayUse};
-ghost use Rattle.term_text.specs.Printed.{printed_bits, printed_segment};
+ghost use Rattle.text_model.specs.Printed.{printed_bits, printed_segment};
 
 use crate::Memory;
 use dets_term::ByteList;

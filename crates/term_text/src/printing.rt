@@ -3,7 +3,8 @@ ghost use Rattle.std.specs.Fmt.{digits, digit_glyph, signed_decimal};
 ghost use Rattle.std.specs.Str.{chars, bytes_eq};
 ghost use Rattle.std.specs.List.{list_any};
 ghost use Rattle.dets_term.specs.TermValue.{nil, chain, map_of};
-ghost use Rattle.term_text.specs.Printed.{is_name_character, is_plain_atom, is_reserved, quoted_character, quoted_atom, printed_atom, printed, printed_elements};
+ghost use Rattle.text_model.specs.Token.{is_name_character, is_plain_atom};
+ghost use Rattle.text_model.specs.Printed.{is_reserved, quoted_character, quoted_atom, printed_atom, printed, printed_elements};
 
 use crate::Memory;
 use crate::print_bits::print_bits;

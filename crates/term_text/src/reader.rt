@@ -1,224 +1,543 @@
-ghost use Rattle.std.specs.Prelude.{◌≡◌, ◌-◌, ◌<◌, ◌≤◌, ◌+◌, ◌^◌, ◌==◌, true, false, length, take, ◌⊎◌, Some, None, option_and_then, IfOk, OnOk, IsErrOf};
-ghost use Rattle.dets_term.specs.TermValue.{atom};
-ghost use Rattle.term_text.specs.Token.{is_white, with_digit};
-ghost use Rattle.term_text.specs.Machine.{no_token, fresh_state, first_byte, settled, token_begun, next_state, stopped, ReaderState};
-ghost use Rattle.term_text.specs.Reading.{is_stopped, HasFew};
-ghost use Rattle.term_text.specs.Reading.{nest_of};
-ghost use Rattle.term_text.specs.ReaderView.{token_of, reader_of};
-ghost use Rattle.term_text.specs.Reaches.{Reaches, Fails, IsOrderly, IsInTime, counted};
-ghost use Rattle.term_text.specs.Valid.{IsValid, ValidFrames};
+//! What the bytes behind the last term's full stop have come to.
+ghost use Rattle.std.specs.Prelude.{◌≡◌, ◌<◌, ◌≤◌, ◌+◌, ◌-◌, ◌^◌, ℕ, ◌∷◌, ◌++◌, [], true, false, List, length, take as first, Option, Some, None, Ok};
+ghost use Rattle.std.specs.Prelude.{Err, IfOk, OnOk, ◌&&◌, ◌==◌, not, nat_le};
+ghost use Rattle.dets_term.specs.TermValue.{TermValue};
+ghost use Rattle.text_model.specs.Sentence.{longest};
+ghost use Rattle.std.specs.Char.{is_ascii_digit};
+ghost use Rattle.text_model.specs.Token.{mark, number as a_number_token, plain, is_name_character, a_number, a_plain, a_quoted, a_string};
+ghost use Rattle.text_model.specs.Spelling.{is_white};
+ghost use Rattle.text_model.specs.Grammar.{strict};
+ghost use Rattle.text_model.specs.Nest.{Nest as OpenTerms, take, refusal_of, stopped};
+ghost use Rattle.text_model.specs.Reader.{of_atom, between, in_comment, in_minus, in_number, in_name, in_lexeme, begin, begin_mark, begin_other};
+ghost use Rattle.text_model.specs.Reader.{begin_behind, led_to, token_of, single, double, second_byte, first_of, comment_led, sequence, led, step};
+ghost use Rattle.text_model.specs.Reader.{is_blank, last_fault};
+ghost use Rattle.text_model.specs.Script.{no_term, fault as a_fault};
+ghost use Rattle.text_model.specs.Progress.{no_progress, counted, reach, failing, answer_at_end};
+ghost use Rattle.text_model.specs.declared.fault.TextFault.TheVariants.{Syntax};
+ghost use Rattle.text_model.specs.declared.fault.TextWhy.{TextWhy};
+ghost use Rattle.text_model.specs.declared.fault.TextWhy.TheVariants.{TooLong};
+ghost use Rattle.term_text.specs.declared.lexeme.Lexeme.TheVariants.{Between};
+ghost use Rattle.text_nest.specs.NestView.{nest_of};
+ghost use Rattle.term_text.specs.LexemeView.{lexeme_of, quotes_of, quoted_of};
+ghost use Rattle.text_nest.specs.Fits.{IsFit};
+ghost use Rattle.term_text.specs.StateFits.{IsFitState, LexemeFits};
+ghost use Rattle.text_nest.specs.Strays.{is_stopped};
+ghost use Rattle.term_text.specs.ReaderView.{state_of, progress_of, IsReady};
 
-use crate::TextFault;
-use crate::integer::Integer;
-use crate::name::Name;
-use crate::nest::{Bracket, Nest};
-use crate::printing::is_name_byte;
-use dets_term::Term;
+use crate::lexeme::{Cut, Lexeme, Quoted, Quotes};
+use crate::sequence::{Bytes, sequence};
+use dets_term::{Term, Text};
 use std::alloc::Global;
 use std::mem;
+use text_model::{Mark, TextFault, TextWhy};
+use text_nest::{Characters, Integer, MAX_CHARACTERS, Nest};
 
-/// The full stop of a term stands among this many bytes from the term's first byte on.
-const MAX_BYTES: u32 = 16_777_216;
+/// The full stop of a term stands among this many bytes from the term's first token on.
+const MAX_BYTES: u64 = 16_777_216;
 
-/// A token of several bytes that may go on.
-#[derive(Drop)]
-enum Token {
-    None,
-    /// A plain atom: ASCII alone.
-    Atom(Name),
-    /// A minus sign, before its first digit.
-    Minus,
-    Integer(Integer),
-}
-
-/// What the bytes since the last full stop have come to.
+/// What the bytes behind the last term's full stop have come to.
 #[derive(Drop)]
 pub(crate) struct Reader {
     nest: Nest,
-    token: Token,
-    /// How many bytes were read from the term's first one on; 0 where none has begun.
-    length: u32,
+    lexeme: Lexeme,
+    /// How many bytes were read.
+    read: u64,
+    /// How many of them stand in front of the first token.
+    blank: u64,
 }
 
 impl Reader {
     pub(crate) fn new(alloc: Global) -> Reader
-        ensures state { reader_of result ≡ fresh_state }
-        ensures length { result.length ≡ 0 }
+        ensures { progress_of result ≡ no_progress }
     {
         Reader {
             nest: Nest::new(alloc),
-            token: Token::None,
-            length: 0,
+            lexeme: Lexeme::Between,
+            read: 0,
+            blank: 0,
         }
     }
 
-    /// Whether no term has begun.
-    pub(crate) fn is_blank(&self) -> bool
-        ensures { result ≡ (self.now.length == 0) }
+    /// Goes on with a lexeme.
+    fn keep(&mut self, lexeme: Lexeme) -> Result<(), TextFault>
+        ensures kept { self.new ≡ record self.old { lexeme = lexeme } }
+        ensures ok { result ≡ Ok tt }
     {
-        self.length == 0
+        self.lexeme = lexeme;
+        Ok(())
     }
 
-    /// Whether the last byte was a full stop behind a whole term.
+    /// Reads a byte between two tokens.
+    fn begin(&mut self, alloc: Global, at: u64, byte: u8) -> Result<(), TextFault>
+        requires between { self.old.lexeme ≡ Between }
+        requires fits { IsFit (2 ^ 24) (nest_of self.old.nest) }
+        ensures ok { OnOk result (begin (nest_of self.old.nest) at byte ≡ Ok (state_of self.new)) }
+        ensures syntax { (o : ℕ) (why : TextWhy) → result ≡ Err (Syntax o why) → begin (nest_of self.old.nest) at byte ≡ Err (o, why) }
+        ensures counts { (self.new.read ≡ self.old.read) × (self.new.blank ≡ self.old.blank) }
+    {
+        if is_white(byte) {
+            Ok(())
+        } else if byte == b'%' {
+            self.keep(Lexeme::Comment(Cut::new()))
+        } else if let Some(mark) = single(byte) {
+            self.nest.take_mark(alloc, at, mark)
+        } else if let Some(mark) = double(byte) {
+            self.begin_mark(at, mark)
+        } else {
+            self.begin_other(alloc, at, byte)
+        }
+    }
+
+    /// Reads the first byte of a mark of two.
+    fn begin_mark(&mut self, at: u64, mark: Mark) -> Result<(), TextFault>
+        requires between { self.old.lexeme ≡ Between }
+        requires double { (x : ℕ) × (double x ≡ Some mark) }
+        ensures ok { OnOk result (begin_mark (nest_of self.old.nest) at mark ≡ Ok (state_of self.new)) }
+        ensures syntax { (o : ℕ) (why : TextWhy) → result ≡ Err (Syntax o why) → begin_mark (nest_of self.old.nest) at mark ≡ Err (o, why) }
+        ensures counts { (self.new.read ≡ self.old.read) × (self.new.blank ≡ self.old.blank) }
+    {
+        if self.nest.is_stray(mark) {
+            Err(TextFault::Syntax(at, TextWhy::BadToken))
+        } else {
+            self.keep(Lexeme::First(at, mark))
+        }
+    }
+
+    /// Reads the first byte of a token that is no mark.
+    fn begin_other(&mut self, alloc: Global, at: u64, byte: u8) -> Result<(), TextFault>
+        requires between { self.old.lexeme ≡ Between }
+        ensures ok { OnOk result (begin_other (nest_of self.old.nest) at byte ≡ Ok (state_of self.new)) }
+        ensures syntax { (o : ℕ) (why : TextWhy) → result ≡ Err (Syntax o why) → begin_other (nest_of self.old.nest) at byte ≡ Err (o, why) }
+        ensures counts { (self.new.read ≡ self.old.read) × (self.new.blank ≡ self.old.blank) }
+    {
+        if byte == b'-' {
+            match self.nest.number_refusal() {
+                Some(TextWhy::BadToken) => Err(TextFault::Syntax(at, TextWhy::BadToken)),
+                _ => self.keep(Lexeme::Minus(at)),
+            }
+        } else if byte.is_ascii_digit() {
+            match self.nest.number_refusal() {
+                Some(why) => Err(TextFault::Syntax(at, why)),
+                None => self.keep(Lexeme::Number(at, Integer::new(false, byte))),
+            }
+        } else if byte.is_ascii_lowercase() {
+            match self.nest.refusal() {
+                Some(why) => Err(TextFault::Syntax(at, why)),
+                None => self.begin_name(alloc, at, byte),
+            }
+        } else if byte == b'\'' {
+            match self.nest.refusal() {
+                Some(why) => Err(TextFault::Syntax(at, why)),
+                None => self.keep(Lexeme::InQuotes(Quoted::new(alloc, at, Quotes::Atom))),
+            }
+        } else if byte == b'"' {
+            match self.nest.string_refusal() {
+                Some(why) => Err(TextFault::Syntax(at, why)),
+                None => self.keep(Lexeme::InQuotes(Quoted::new(alloc, at, Quotes::String))),
+            }
+        } else {
+            Err(TextFault::Syntax(at, TextWhy::BadToken))
+        }
+    }
+
+    /// Reads the first letter of an atom without quotes.
+    fn begin_name(&mut self, alloc: Global, at: u64, byte: u8) -> Result<(), TextFault>
+        requires { byte < 128 }
+        ensures ok { OnOk result (in_lexeme (nest_of self.old.nest) (in_name at (byte ∷ [])) ≡ Ok (state_of self.new)) }
+        ensures syntax { (o : ℕ) (why : TextWhy) → result ≡ Err (Syntax o why) → ⊥ }
+        ensures counts { (self.new.read ≡ self.old.read) × (self.new.blank ≡ self.old.blank) }
+    {
+        let mut name = Characters::new(alloc);
+        name.push(char::from(byte))?;
+        self.keep(Lexeme::Name(at, name))
+    }
+
+    /// Reads a byte of a comment, behind the first ones of a character.
+    fn comment(&mut self, at: u64, cut: Cut, byte: u8) -> Result<(), TextFault>
+        requires cut { length cut.items ≤ 3 }
+        ensures ok { OnOk result (comment_led (nest_of self.old.nest) (at - length cut.items) (cut.items ++ byte ∷ [])
+            (sequence (cut.items ++ byte ∷ [])) ≡ Ok (state_of self.new)) }
+        ensures syntax { (o : ℕ) (why : TextWhy) → result ≡ Err (Syntax o why) → comment_led (nest_of self.old.nest) (at - length cut.items)
+            (cut.items ++ byte ∷ []) (sequence (cut.items ++ byte ∷ [])) ≡ Err (o, why) }
+        ensures counts { (self.new.read ≡ self.old.read) × (self.new.blank ≡ self.old.blank) }
+    {
+        let start = at.saturating_sub(cut.len() as u64);
+        let mut bytes = cut;
+        bytes.push(byte);
+        match sequence(bytes.as_slice()) {
+            Bytes::Whole('\n') => self.keep(Lexeme::Between),
+            Bytes::Whole(_) => self.keep(Lexeme::Comment(Cut::new())),
+            Bytes::Part => self.keep(Lexeme::Comment(bytes)),
+            Bytes::Wrong => Err(TextFault::Syntax(start, TextWhy::BadUtf8)),
+        }
+    }
+
+    /// Reads a byte behind the first one of a mark of two.
+    fn second(&mut self, alloc: Global, start: u64, mark: Mark, byte: u8) -> Result<(), TextFault>
+        requires fits { IsFit (2 ^ 24) (nest_of self.old.nest) }
+        ensures ok { (at : ℕ) → OnOk result (led (nest_of self.old.nest) at byte (first_of start mark) ≡ Ok (state_of self.new)) }
+        ensures syntax { (at o : ℕ) (why : TextWhy) → result ≡ Err (Syntax o why) → led (nest_of self.old.nest) at byte (first_of start mark) ≡ Err (o, why) }
+        ensures counts { (self.new.read ≡ self.old.read) × (self.new.blank ≡ self.old.blank) }
+    {
+        if byte != second_byte(mark) {
+            return Err(TextFault::Syntax(start, TextWhy::BadToken));
+        }
+        self.lexeme = Lexeme::Between;
+        self.nest.take_mark(alloc, start, mark)
+    }
+
+    /// Reads a byte behind a minus sign.
+    fn minus(&mut self, start: u64, byte: u8) -> Result<(), TextFault>
+        ensures ok { (at : ℕ) → OnOk result (led (nest_of self.old.nest) at byte (in_minus start) ≡ Ok (state_of self.new)) }
+        ensures syntax { (at o : ℕ) (why : TextWhy) → result ≡ Err (Syntax o why) → led (nest_of self.old.nest) at byte (in_minus start) ≡ Err (o, why) }
+        ensures counts { (self.new.read ≡ self.old.read) × (self.new.blank ≡ self.old.blank) }
+    {
+        if !byte.is_ascii_digit() {
+            return Err(TextFault::Syntax(start, TextWhy::BadToken));
+        }
+        match self.nest.number_refusal() {
+            Some(why) => Err(TextFault::Syntax(start, why)),
+            None => self.keep(Lexeme::Number(start, Integer::new(true, byte))),
+        }
+    }
+
+    /// Reads one more digit of a number.
+    fn digit(&mut self, start: u64, number: Integer, byte: u8) -> Result<(), TextFault>
+        requires { (48 ≤ byte) × (byte < 58) }
+        ensures ok { (at : ℕ) → OnOk result (led (nest_of self.old.nest) at byte (in_number start number.is_negative number.value) ≡ Ok (state_of self.new)) }
+        ensures syntax { (at o : ℕ) (why : TextWhy) → result ≡ Err (Syntax o why)
+            → led (nest_of self.old.nest) at byte (in_number start number.is_negative number.value) ≡ Err (o, why) }
+        ensures counts { (self.new.read ≡ self.old.read) × (self.new.blank ≡ self.old.blank) }
+    {
+        match number.with_digit(byte) {
+            Some(next) => self.keep(Lexeme::Number(start, next)),
+            None => Err(TextFault::Syntax(start, TextWhy::IntegerRange)),
+        }
+    }
+
+    /// Ends a number, and reads the byte behind it.
+    fn end_number(
+        &mut self,
+        alloc: Global,
+        start: u64,
+        number: Integer,
+        at: u64,
+        byte: u8,
+    ) -> Result<(), TextFault>
+        requires fits { IsFitState (2 ^ 24) (record { nest = nest_of self.old.nest; lexeme = in_number start number.is_negative number.value }) }
+        ensures ok { OnOk result (begin_behind (take strict (nest_of self.old.nest) start (a_number_token number.value)) at byte ≡ Ok (state_of self.new)) }
+        ensures syntax { (o : ℕ) (why : TextWhy) → result ≡ Err (Syntax o why)
+            → begin_behind (take strict (nest_of self.old.nest) start (a_number_token number.value)) at byte ≡ Err (o, why) }
+        ensures counts { (self.new.read ≡ self.old.read) × (self.new.blank ≡ self.old.blank) }
+    {
+        self.lexeme = Lexeme::Between;
+        match self.nest.take_number(start, number.value) {
+            Ok(()) => self.begin(alloc, at, byte),
+            Err(fault) => Err(fault),
+        }
+    }
+
+    /// Ends an atom without quotes, and reads the byte behind it.
+    fn end_name(
+        &mut self,
+        alloc: Global,
+        start: u64,
+        name: Text,
+        at: u64,
+        byte: u8,
+    ) -> Result<(), TextFault>
+        requires fits { IsFitState (2 ^ 24) (record { nest = nest_of self.old.nest; lexeme = in_name start name }) }
+        ensures ok { OnOk result (begin_behind (take strict (nest_of self.old.nest) start (plain name)) at byte ≡ Ok (state_of self.new)) }
+        ensures syntax { (o : ℕ) (why : TextWhy) → result ≡ Err (Syntax o why)
+            → begin_behind (take strict (nest_of self.old.nest) start (plain name)) at byte ≡ Err (o, why) }
+        ensures counts { (self.new.read ≡ self.old.read) × (self.new.blank ≡ self.old.blank) }
+    {
+        self.lexeme = Lexeme::Between;
+        match self.nest.take_atom(start, name) {
+            Ok(()) => self.begin(alloc, at, byte),
+            Err(fault) => Err(fault),
+        }
+    }
+
+    /// Ends a token in quotes.
+    fn end_quoted(&mut self, alloc: Global, quoted: Quoted) -> Result<(), TextFault>
+        requires name { quotes_of quoted.quotes ≡ of_atom → length quoted.characters.text ≤ 255 }
+        requires few { length quoted.characters.text < 2 ^ 31 }
+        ensures ok { OnOk result (led_to (take strict (nest_of self.old.nest) quoted.start (token_of (quotes_of quoted.quotes) quoted.characters.text))
+            ≡ Ok (state_of self.new)) }
+        ensures syntax { (o : ℕ) (why : TextWhy) → result ≡ Err (Syntax o why)
+            → led_to (take strict (nest_of self.old.nest) quoted.start (token_of (quotes_of quoted.quotes) quoted.characters.text)) ≡ Err (o, why) }
+        ensures counts { (self.new.read ≡ self.old.read) × (self.new.blank ≡ self.old.blank) }
+    {
+        self.lexeme = Lexeme::Between;
+        match quoted.quotes {
+            Quotes::Atom => self.nest.take_atom(quoted.start, quoted.characters.text),
+            Quotes::String => self.nest.take_string(
+                alloc,
+                quoted.start,
+                &quoted.characters.text,
+                quoted.characters.count,
+            ),
+        }
+    }
+
+    /// Reads a byte of a token in quotes.
+    fn quoted(&mut self, alloc: Global, quoted: Quoted, at: u64, byte: u8) -> Result<(), TextFault>
+        requires fits { IsFitState (2 ^ 24 - 1) (record { nest = nest_of self.old.nest; lexeme = quoted_of quoted }) }
+        ensures ok { OnOk result (led (nest_of self.old.nest) at byte (quoted_of quoted) ≡ Ok (state_of self.new)) }
+        ensures syntax { (o : ℕ) (why : TextWhy) → result ≡ Err (Syntax o why) → led (nest_of self.old.nest) at byte (quoted_of quoted) ≡ Err (o, why) }
+        ensures counts { (self.new.read ≡ self.old.read) × (self.new.blank ≡ self.old.blank) }
+    {
+        let mut quoted = quoted;
+        match quoted.read(&self.nest, at, byte) {
+            Ok(false) => self.keep(Lexeme::InQuotes(quoted)),
+            Ok(true) => self.end_quoted(alloc, quoted),
+            Err(fault) => Err(fault),
+        }
+    }
+
+    /// Reads a byte that stands at an offset.
+    fn step(&mut self, alloc: Global, at: u64, byte: u8) -> Result<(), TextFault>
+        requires fits { IsFitState (2 ^ 24 - 1) (state_of self.old) }
+        ensures ok { OnOk result (step (state_of self.old) at byte ≡ Ok (state_of self.new)) }
+        ensures syntax { (o : ℕ) (why : TextWhy) → result ≡ Err (Syntax o why) → step (state_of self.old) at byte ≡ Err (o, why) }
+        ensures counts { (self.new.read ≡ self.old.read) × (self.new.blank ≡ self.old.blank) }
+    {
+        match mem::replace(&mut self.lexeme, Lexeme::Between) {
+            Lexeme::Between => self.begin(alloc, at, byte),
+            Lexeme::Comment(cut) => self.comment(at, cut, byte),
+            Lexeme::First(start, mark) => self.second(alloc, start, mark, byte),
+            Lexeme::Minus(start) => self.minus(start, byte),
+            Lexeme::Number(start, number) => {
+                if byte.is_ascii_digit() {
+                    self.digit(start, number, byte)
+                } else {
+                    self.end_number(alloc, start, number, at, byte)
+                }
+            }
+            Lexeme::Name(start, name) => {
+                if is_name_byte(byte) {
+                    self.letter(start, name, byte)
+                } else {
+                    self.end_name(alloc, start, name.text, at, byte)
+                }
+            }
+            Lexeme::InQuotes(quoted) => self.quoted(alloc, quoted, at, byte),
+        }
+    }
+
+    /// Reads one more character of an atom without quotes.
+    fn letter(&mut self, start: u64, name: Characters, byte: u8) -> Result<(), TextFault>
+        requires { is_name_character byte ≡ true }
+        ensures ok { (at : ℕ) → OnOk result (led (nest_of self.old.nest) at byte (in_name start name.text) ≡ Ok (state_of self.new)) }
+        ensures syntax { (at o : ℕ) (why : TextWhy) → result ≡ Err (Syntax o why)
+            → led (nest_of self.old.nest) at byte (in_name start name.text) ≡ Err (o, why) }
+        ensures counts { (self.new.read ≡ self.old.read) × (self.new.blank ≡ self.old.blank) }
+    {
+        if name.count >= MAX_CHARACTERS {
+            return Err(TextFault::Syntax(start, TextWhy::BadToken));
+        }
+        let mut name = name;
+        name.push(char::from(byte))?;
+        self.keep(Lexeme::Name(start, name))
+    }
+
+    /// Whether no token is begun.
+    pub(crate) fn is_blank(&self) -> bool
+        ensures { result ≡ is_blank (state_of self.now) }
+    {
+        self.nest.is_fresh() && matches!(self.lexeme, Lexeme::Between | Lexeme::Comment(_))
+    }
+
+    /// Whether the last byte was the full stop of a term.
     pub(crate) fn is_stopped(&self) -> bool
-        ensures { result ≡ is_stopped (reader_of self.now).nest.place }
+        ensures { result ≡ is_stopped (nest_of self.now.nest).place }
     {
         self.nest.is_stopped()
     }
 
-    /// The term whose full stop was the last byte. The next term begins then.
-    pub(crate) fn take_stopped(&mut self) -> Term
-        requires valid { IsValid (reader_of self.old) }
-        requires stopped { is_stopped (reader_of self.old).nest.place ≡ true }
-        requires none { token_of self.old.token ≡ no_token }
-        ensures term { (reader_of self.old).nest.place ≡ stopped result }
-        ensures state { reader_of self.new ≡ fresh_state }
-        ensures length { self.new.length ≡ 0 }
+    /// Reads one byte, and counts it.
+    fn advance(&mut self, alloc: Global, byte: u8) -> Result<(), TextFault>
+        requires ready { IsReady (progress_of self.old) }
+        requires moving { is_stopped (nest_of self.old.nest).place ≡ false }
+        requires room { self.old.read < 2 ^ 63 }
+        ensures ok { OnOk result ((step (state_of self.old) self.old.read byte ≡ Ok (state_of self.new))
+            × (progress_of self.new ≡ counted (progress_of self.old) (state_of self.new))) }
+        ensures syntax { (o : ℕ) (why : TextWhy) → result ≡ Err (Syntax o why) → step (state_of self.old) self.old.read byte ≡ Err (o, why) }
     {
-        self.length = 0;
-        self.nest.take_stopped()
+        let was_blank = self.blank == self.read;
+        match self.step(alloc, self.read, byte) {
+            Ok(()) => {
+                self.read += 1;
+                if was_blank && self.is_blank() {
+                    self.blank = self.read;
+                }
+                Ok(())
+            }
+            Err(fault) => Err(fault),
+        }
+    }
+
+    /// Whether as many bytes as a text may have were read from its first token on, and no full stop.
+    fn is_too_long(&self) -> bool
+        requires { self.now.blank ≤ self.now.read }
+        ensures { result ≡ ((not (is_stopped (nest_of self.now.nest).place)) && nat_le (self.now.blank + longest) self.now.read) }
+    {
+        !self.is_stopped() && self.read - self.blank >= MAX_BYTES
     }
 
     /// Reads bytes up to a full stop behind a whole term, and says how many.
     pub(crate) fn run(&mut self, alloc: Global, bytes: &[u8]) -> Result<usize, TextFault>
-        requires { IsOrderly (reader_of self.old) self.old.length }
+        requires ready { IsReady (progress_of self.old) }
+        requires room { self.old.read + length bytes.now < 2 ^ 63 }
         ensures within { IfOk result (λ taken. taken ≤ length bytes.now) }
-        ensures ok { IfOk result (λ taken. Reaches (reader_of self.old) self.old.length (take taken bytes.now) (reader_of self.new) self.new.length) }
-        ensures order { OnOk result (IsOrderly (reader_of self.new) self.new.length) }
-        ensures stop { IfOk result (λ taken. taken < length bytes.now → is_stopped (reader_of self.new).nest.place ≡ true) }
-        ensures not_yet { IsErrOf result TextFault.NotYet → Fails (reader_of self.old) self.old.length bytes.now }
+        ensures reached { IfOk result (λ taken. (more : List ℕ)
+            → reach (progress_of self.old) (first taken bytes.now ++ more) ≡ reach (progress_of self.new) more) }
+        ensures read { IfOk result (λ taken. self.new.read ≡ self.old.read + taken) }
+        ensures stop { IfOk result (λ taken. taken < length bytes.now → is_stopped (nest_of self.new.nest).place ≡ true) }
+        ensures ready { OnOk result (IsReady (progress_of self.new)) }
+        ensures syntax { (o : ℕ) (why : TextWhy) → result ≡ Err (Syntax o why) → reach (progress_of self.old) bytes.now ≡ failing o why }
     {
         for (taken, byte) in bytes.iter().enumerate() {
             if self.is_stopped() {
                 return Ok(taken);
             }
-            self.advance(alloc, *byte)?;
+            match self.advance(alloc, *byte) {
+                Ok(()) => {}
+                Err(fault) => return Err(fault),
+            }
+            if self.is_too_long() {
+                return Err(TextFault::Syntax(self.blank, TextWhy::TooLong));
+            }
         }
         Ok(bytes.len())
     }
 
-    /// Reads one byte, and counts it.
-    fn advance(&mut self, alloc: Global, byte: u8) -> Result<(), TextFault>
-        requires order { IsOrderly (reader_of self.old) self.old.length }
-        requires moving { is_stopped (reader_of self.old).nest.place ≡ false }
-        ensures ok { OnOk result ((next_state (reader_of self.old) byte ≡ Some (reader_of self.new)) × IsInTime (reader_of self.new) self.new.length) }
-        ensures count { OnOk result (self.new.length ≡ counted self.old.length byte) }
-        ensures not_yet { IsErrOf result TextFault.NotYet → (next_state (reader_of self.old) byte ≡ None)
-            ⊎ ((m : ReaderState) × (next_state (reader_of self.old) byte ≡ Some m) × (is_stopped m.nest.place ≡ false)
-            × (2 ^ 24 ≤ counted self.old.length byte)) }
+    /// The term whose full stop was the last byte.
+    pub(crate) fn into_term(self) -> Option<Term>
+        ensures some { (t : TermValue) → result ≡ Some t → (nest_of self.nest).place ≡ stopped t }
+        ensures none { result ≡ None → is_stopped (nest_of self.nest).place ≡ false }
     {
-        self.read(alloc, byte)?;
-        if self.length > 0 || !is_white_space(byte) {
-            self.length += 1;
-        }
-        if self.length >= MAX_BYTES && !self.is_stopped() {
-            return Err(TextFault::NotYet);
-        }
-        Ok(())
+        self.nest.into_term()
     }
 
-    /// Reads one byte.
-    fn read(&mut self, alloc: Global, byte: u8) -> Result<(), TextFault>
-        requires valid { IsValid (reader_of self.old) }
-        requires few { HasFew (2 ^ 24 - 1) (reader_of self.old).nest.frames }
-        ensures ok { OnOk result (next_state (reader_of self.old) byte ≡ Some (reader_of self.new)) }
-        ensures length { self.new.length ≡ self.old.length }
-        ensures not_yet { IsErrOf result TextFault.NotYet → next_state (reader_of self.old) byte ≡ None }
+    /// The fault that the end of the input is, but for one where all that was read is blank.
+    fn last_fault(self) -> Result<Option<(u64, TextWhy)>, TextFault>
+        requires { LexemeFits (lexeme_of self.lexeme) }
+        ensures none { result ≡ Ok None → last_fault (nest_of self.nest) self.read (lexeme_of self.lexeme) ≡ None }
+        ensures some { (o : ℕ) (why : TextWhy) → result ≡ Ok (Some (o, why))
+            → last_fault (nest_of self.nest) self.read (lexeme_of self.lexeme) ≡ Some (o, why) }
+        ensures memory { (o : ℕ) (why : TextWhy) → result ≡ Err (Syntax o why) → ⊥ }
     {
-        match &mut self.token {
-            Token::Atom(name) if is_name_byte(byte) => name.push(byte),
-            Token::Minus if byte.is_ascii_digit() => {
-                self.token = Token::Integer(Integer::new(true, byte));
-                Ok(())
-            }
-            Token::Integer(integer) if byte.is_ascii_digit() => {
-                match integer.with_digit(byte) {
-                    Some(next) => {
-                        *integer = next;
-                        Ok(())
-                    }
-                    None => Err(TextFault::NotYet),
-                }
-            }
-            _ => self.read_apart(alloc, byte),
+        let Reader {
+            nest,
+            lexeme,
+            read,
+            ..
+        } = self;
+        match lexeme {
+            Lexeme::Number(start, number) => nest.last_number(start, number),
+            Lexeme::Name(start, name) => nest.last_name(start, name),
+            Lexeme::Comment(cut) => Ok(last_comment(read, &cut)),
+            Lexeme::Between => Ok(None),
+            Lexeme::First(_, _) => Ok(None),
+            Lexeme::Minus(_) => Ok(None),
+            Lexeme::InQuotes(_) => Ok(None),
         }
     }
 
-    /// Reads a byte that does not go on with the token.
-    fn read_apart(&mut self, alloc: Global, byte: u8) -> Result<(), TextFault>
-        requires valid { IsValid (reader_of self.old) }
-        requires few { HasFew (2 ^ 24 - 1) (reader_of self.old).nest.frames }
-        ensures ok { OnOk result
-            (option_and_then (λ n. token_begun n byte) (settled (nest_of self.old.nest) (token_of self.old.token)) ≡ Some (reader_of self.new)) }
-        ensures length { self.new.length ≡ self.old.length }
-        ensures not_yet { IsErrOf result TextFault.NotYet
-            → option_and_then (λ n. token_begun n byte) (settled (nest_of self.old.nest) (token_of self.old.token)) ≡ None }
+    /// What the end of the input is told as, where something is begun.
+    pub(crate) fn ended(self) -> TextFault
+        requires fits { LexemeFits (lexeme_of self.lexeme) }
+        requires begun { is_blank (state_of self) ≡ false }
+        ensures { (o : ℕ) (why : TextWhy) → result ≡ Syntax o why
+            → answer_at_end (progress_of self) (last_fault (nest_of self.nest) self.read (lexeme_of self.lexeme)) ≡ no_term (a_fault o why) }
     {
-        self.end_token(alloc)?;
-        self.begin_token(alloc, byte)
-    }
-
-    /// Ends the token that was read, if there is one.
-    fn end_token(&mut self, alloc: Global) -> Result<(), TextFault>
-        requires { IsValid (reader_of self.old) }
-        ensures ok { OnOk result (settled (nest_of self.old.nest) (token_of self.old.token) ≡ Some (nest_of self.new.nest)) }
-        ensures none { OnOk result (token_of self.new.token ≡ no_token) }
-        ensures length { self.new.length ≡ self.old.length }
-        ensures not_yet { IsErrOf result TextFault.NotYet → settled (nest_of self.old.nest) (token_of self.old.token) ≡ None }
-    {
-        match mem::replace(&mut self.token, Token::None) {
-            Token::None => Ok(()),
-            Token::Atom(name) => {
-                let term = name.atom(alloc)?;
-                Ok(self.nest.complete(term)?)
-            }
-            Token::Minus => Err(TextFault::NotYet),
-            Token::Integer(integer) => Ok(self.nest.complete(Term::int(integer.value))?),
+        let read = self.read;
+        match self.last_fault() {
+            Ok(None) => TextFault::Syntax(read, TextWhy::Unfinished),
+            Ok(Some((at, why))) => TextFault::Syntax(at, why),
+            Err(fault) => fault,
         }
     }
 
-    /// Reads the first byte of a token, or a byte between tokens.
-    fn begin_token(&mut self, alloc: Global, byte: u8) -> Result<(), TextFault>
-        requires none { token_of self.old.token ≡ no_token }
-        requires valid { ValidFrames (nest_of self.old.nest).frames }
-        requires few { HasFew (2 ^ 24) (nest_of self.old.nest).frames }
-        ensures ok { OnOk result (token_begun (nest_of self.old.nest) byte ≡ Some (reader_of self.new)) }
-        ensures length { self.new.length ≡ self.old.length }
-        ensures not_yet { IsErrOf result TextFault.NotYet → token_begun (nest_of self.old.nest) byte ≡ None }
+    /// The fault that the end of the input is, where all that was read is blank.
+    pub(crate) fn blank_fault(&self) -> Option<(u64, TextWhy)>
+        requires { is_blank (state_of self.now) ≡ true }
+        ensures none { result ≡ None → last_fault (nest_of self.now.nest) self.now.read (lexeme_of self.now.lexeme) ≡ None }
+        ensures some { (o : ℕ) (why : TextWhy) → result ≡ Some (o, why)
+            → last_fault (nest_of self.now.nest) self.now.read (lexeme_of self.now.lexeme) ≡ Some (o, why) }
     {
-        match byte {
-            b'{' => self.nest.open(alloc, Bracket::Tuple),
-            b'}' => self.nest.close(Bracket::Tuple),
-            b'[' => self.nest.open(alloc, Bracket::List),
-            b']' => self.nest.close(Bracket::List),
-            b',' => self.nest.comma(),
-            b'.' => self.nest.stop(),
-            _ if is_white_space(byte) => Ok(()),
-            _ if !self.nest.may_begin() => Err(TextFault::NotYet),
-            _ => {
-                self.token = first_of_token(alloc, byte)?;
-                Ok(())
-            }
+        match &self.lexeme {
+            Lexeme::Comment(cut) => last_comment(self.read, cut),
+            _ => None,
         }
     }
 }
 
-/// The token of an atom or an integer that begins with this byte.
-fn first_of_token(alloc: Global, byte: u8) -> Result<Token, TextFault>
-    ensures ok { IfOk result (λ token. first_byte byte ≡ Some (token_of token)) }
-    ensures not_yet { IsErrOf result TextFault.NotYet → first_byte byte ≡ None }
+/// The fault of a comment whose last character the end of the input cuts.
+fn last_comment(end: u64, cut: &Cut) -> Option<(u64, TextWhy)>
+    ensures none { (n : OpenTerms) → result ≡ None → last_fault n end (in_comment cut.now.items) ≡ None }
+    ensures some { (n : OpenTerms) (o : ℕ) (why : TextWhy) → result ≡ Some (o, why) → last_fault n end (in_comment cut.now.items) ≡ Some (o, why) }
 {
-    match byte {
-        b'-' => Ok(Token::Minus),
-        b'0'..=b'9' => Ok(Token::Integer(Integer::new(false, byte))),
-        b'a'..=b'z' => Ok(Token::Atom(Name::new(alloc, byte)?)),
-        _ => Err(TextFault::NotYet),
+    if cut.is_empty() {
+        None
+    } else {
+        Some((end.saturating_sub(cut.len() as u64), TextWhy::BadUtf8))
     }
 }
 
-/// Whether a byte may stand between two tokens.
-pub(crate) fn is_white_space(byte: u8) -> bool
+/// White space.
+pub(crate) fn is_white(byte: u8) -> bool
     ensures { result ≡ is_white byte }
 {
     matches!(byte, 9..=13 | b' ')
+}
+
+/// The mark of one byte.
+fn single(byte: u8) -> Option<Mark>
+    ensures { result ≡ single byte }
+{
+    match byte {
+        b'{' => Some(Mark::OpenTuple),
+        b'}' => Some(Mark::CloseBrace),
+        b'[' => Some(Mark::OpenList),
+        b']' => Some(Mark::CloseList),
+        b'|' => Some(Mark::Bar),
+        b',' => Some(Mark::Comma),
+        b':' => Some(Mark::Colon),
+        b'.' => Some(Mark::FullStop),
+        _ => None,
+    }
+}
+
+/// The mark of two bytes of which this is the first one.
+fn double(byte: u8) -> Option<Mark>
+    ensures { result ≡ double byte }
+{
+    match byte {
+        b'#' => Some(Mark::OpenMap),
+        b'<' => Some(Mark::OpenBits),
+        b'>' => Some(Mark::CloseBits),
+        b'=' => Some(Mark::Arrow),
+        _ => None,
+    }
+}
+
+/// The second byte of a mark of two.
+fn second_byte(mark: Mark) -> u8
+    ensures { result ≡ second_byte mark }
+{
+    match mark {
+        Mark::OpenMap => b'{',
+        Mark::OpenBits => b'<',
+        _ => b'>',
+    }
+}
+
+/// Whether an atom without quotes may go on with a byte.
+fn is_name_byte(byte: u8) -> bool
+    ensures { result ≡ is_name_character byte }
+{
+    byte.is_ascii_alphanumeric() || byte == b'_' || byte == b'@'
 }

@@ -1,14 +1,15 @@
 //! What no clause says: that calls succeed where memory is there, and what the clauses come to at small values.
-use crate::{Memory, Words, dets_main};
+use crate::{InputWhy, Memory, Status, Words, dets_main};
 use host_model::{MemHost, MemSource};
 use std::alloc::Global;
 use std::test::Fail;
+use term_text::TextWhy;
 
 /// A run of the program: its words, its input, how many bytes a read gives at most, and the reads and puts that fail.
 type Run<'a> = (&'a [&'a str], &'a [u8], usize, &'a [u64], &'a [u64]);
 
-/// The line of the status that a run ends with, and what it said.
-fn outcome(alloc: Global, run: Run<'_>) -> Result<(Vec<u8>, Vec<u8>), Memory> {
+/// The status that a run ends with, and what it said.
+fn ended(alloc: Global, run: Run<'_>) -> Result<(Status, Vec<u8>), Memory> {
     let (word_list, input, most, failing_reads, failing_puts) = run;
     let mut words = Words::new(alloc);
     for word in word_list {
@@ -17,11 +18,14 @@ fn outcome(alloc: Global, run: Run<'_>) -> Result<(Vec<u8>, Vec<u8>), Memory> {
     let mut source = MemSource::new(alloc, input, most.max(1), failing_reads)?;
     let mut host = MemHost::new(alloc, &[], failing_puts)?;
     let status = dets_main(alloc, &words, &mut source, &mut host);
+    Ok((status, Vec::from_slice(alloc, host.said())?))
+}
+
+/// The line of the status that a run ends with, and what it said.
+fn outcome(alloc: Global, run: Run<'_>) -> Result<(Vec<u8>, Vec<u8>), Memory> {
+    let (status, said) = ended(alloc, run)?;
     let line = status.line(alloc)?;
-    Ok((
-        Vec::from_slice(alloc, line.as_slice())?,
-        Vec::from_slice(alloc, host.said())?,
-    ))
+    Ok((Vec::from_slice(alloc, line.as_slice())?, said))
 }
 
 const RUN: &[&str] = &["run", "t"];
@@ -44,20 +48,20 @@ const OUTPUT_FAULT: &[u8] = b"dets_tool: output fault\n";
 
 const WORDS_REFUSED: &[u8] = b"dets_tool: words refused\n";
 
-const NOT_YET_AT_1: &[u8] = b"dets_tool: not yet at command 1\n";
+const REFUSED_AT_27: &[u8] = b"dets_tool: input refused at 27\n";
 
 const NOT_YET_AT_3: &[u8] = b"dets_tool: not yet at command 3\n";
 
 #[test]
 fn runs_end_as_stated(rt: HostRuntime) -> Result<(), Fail> {
-    let rows: [(Run<'_>, &[u8], &[u8]); 17] = [
+    let rows: [(Run<'_>, &[u8], &[u8]); 18] = [
         // the plain path, in pieces
         ((RUN, PLAIN, 1, &[], &[]), b"", PLAIN_REPLIES),
         ((RUN, PLAIN, 2, &[], &[]), b"", PLAIN_REPLIES),
         ((RUN, PLAIN, 7, &[], &[]), b"", PLAIN_REPLIES),
         ((RUN, PLAIN, 4096, &[], &[]), b"", PLAIN_REPLIES),
         ((RUN, b"", 4096, &[], &[]), b"", b""),
-        // a command and a text that are not built
+        // a command that is not built, and a text that breaks a rule
         (
             (RUN, SYNC_IS_NEXT, 1, &[], &[]),
             NOT_YET_AT_3,
@@ -70,7 +74,7 @@ fn runs_end_as_stated(rt: HostRuntime) -> Result<(), Fail> {
         ),
         (
             (RUN, FLOAT_IS_NEXT, 4096, &[], &[]),
-            NOT_YET_AT_1,
+            REFUSED_AT_27,
             FIRST_REPLY,
         ),
         // words that are no job: nothing is read or said
@@ -84,6 +88,8 @@ fn runs_end_as_stated(rt: HostRuntime) -> Result<(), Fail> {
         ((RUN, PLAIN, 4096, &[0], &[]), SOURCE_FAULT, b""),
         ((RUN, PLAIN, 4096, &[1], &[]), SOURCE_FAULT, PLAIN_REPLIES),
         ((RUN, PLAIN, 13, &[1], &[]), SOURCE_FAULT, FIRST_REPLY),
+        // a full stop that is the last byte in front of the fault ends no command
+        ((RUN, PLAIN, 12, &[1], &[]), SOURCE_FAULT, b""),
         // each put fails in turn; three replies are three puts
         ((RUN, PLAIN, 4096, &[], &[0]), OUTPUT_FAULT, b""),
         ((RUN, PLAIN, 4096, &[], &[1]), OUTPUT_FAULT, FIRST_REPLY),
@@ -95,5 +101,14 @@ fn runs_end_as_stated(rt: HostRuntime) -> Result<(), Fail> {
         assert_eq!(rt; told.0.as_slice(), line);
         assert_eq!(rt; told.1.as_slice(), said);
     }
+    Ok(())
+}
+
+#[test]
+fn a_fault_of_the_text_is_told(rt: HostRuntime) -> Result<(), Fail> {
+    let (status, said) = ended(rt.alloc(), (RUN, FLOAT_IS_NEXT, 4096, &[], &[]))?;
+    let is_told = matches!(status, Status::Input(27, InputWhy::Text(TextWhy::BadToken)));
+    assert!(rt; is_told);
+    assert_eq!(rt; said.as_slice(), FIRST_REPLY);
     Ok(())
 }

@@ -3,7 +3,7 @@ use Rattle.std.proofs.lemmas.List.{take_all}
 use Rattle.std.specs.List.{join_by}
 use Rattle.std.specs.Fmt.{decimal}
 use Rattle.dets_term.specs.BitString.{byte_bits, bits_of}
-use Rattle.term_text.specs.Printed.{octets, printed_segment}
+use Rattle.text_model.specs.Printed.{octets, printed_segment}
 use Rattle.term_text.proofs.PrintedBits.{printed-bytes, printed-no_bytes}
 use Rattle.term_text.proofs.print_bits.print_bits.Goals as goal
 use Rattle.term_text.proofs.print_bits.print_bits.Goals.{in-Some+else-loop-byte-test+in_ok-print_segment, in_default}

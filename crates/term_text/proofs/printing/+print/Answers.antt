@@ -4,11 +4,16 @@ use Rattle.std.specs.Option.{option_copied}
 use Rattle.dets_term.specs.TermValue.{parts_depth, depth}
 use Rattle.dets_term.specs.Node.{shown, IsSound}
 use Rattle.dets_term.specs.Parts.{deepest_bounds}
-use Rattle.term_text.specs.Printed.{printed}
-use Rattle.term_text.proofs.Elements.{left_from-end, first_printed, next_printed, element_within, elements_fall, printed-list, printed-improper, improper_falls, printed_entry, printed-map, entry_printed, map_falls, pair_falls}
+use Rattle.text_model.specs.Printed.{printed}
+use Rattle.term_text.proofs.Elements.{left_from-end, first_printed, next_printed, element_within, elements_fall, printed-list, printed-improper}
+use Rattle.term_text.proofs.Elements.{improper_falls, printed_entry, printed-map, entry_printed, map_falls, pair_falls}
 use Rattle.term_text.proofs.Joined.{left_of-end, first_part, next_part}
 use Rattle.term_text.proofs.printing.+print.Goals as goal
-use Rattle.term_text.proofs.printing.+print.Goals.{print_elements-then-place-gt0+in_ok-push, print_elements-else-place-gt0, print_elements-in-Some+in_ok-print_term, print_elements-in_default, print_map-then-place-gt0+in_ok-push, print_map-else-place-gt0, print_map-in-Some+in_ok-print_term+in_ok-extend_from_slice-2+in_ok-print_term-2, print_map-in_default}
+use Rattle.term_text.proofs.printing.+print.Goals.{print_elements-then-place-gt0+in_ok-push, print_elements-else-place-gt0}
+use Rattle.term_text.proofs.printing.+print.Goals.{print_elements-in-Some+in_ok-print_term, print_elements-in_default}
+use Rattle.term_text.proofs.printing.+print.Goals.{print_map-then-place-gt0+in_ok-push, print_map-else-place-gt0}
+use Rattle.term_text.proofs.printing.+print.Goals.{print_map-in-Some+in_ok-print_term+in_ok-extend_from_slice-2+in_ok-print_term-2}
+use Rattle.term_text.proofs.printing.+print.Goals.{print_map-in_default}
 
 pub print_term-print_elements-requires : goal.print_term-print_elements-requires
 print_term-print_elements-requires t c =

@@ -2,7 +2,7 @@ use Rattle.std.proofs.Common.{◌≡◌, ◌+◌, ◌*◌, ◌++◌, ◌∷◌, 
 use Rattle.std.specs.List.{join_by}
 use Rattle.dets_term.specs.TermValue.{nil, chain, depth}
 use Rattle.dets_term.specs.Parts.{deepest, deepest_of_pairs}
-use Rattle.term_text.specs.Printed.{printed_elements}
+use Rattle.text_model.specs.Printed.{printed_elements}
 use Rattle.term_text.proofs.Elements.{left_from, printed_entry}
 use Rattle.term_text.proofs.Joined.{left_of}
 use Rattle.term_text.proofs.printing.+print.Given as goal

@@ -1,7 +1,7 @@
 use Rattle.std.proofs.Common.{◌∙◌, sym, drop, rules, tests, arith}
 use Rattle.std.proofs.lemmas.Iterator.{YieldsList-from_slice}
 use Rattle.std.proofs.lemmas.Iterator.Search.{all_from_yields_List}
-use Rattle.term_text.specs.Printed.{is_name_character}
+use Rattle.text_model.specs.Token.{is_name_character}
 use Rattle.term_text.proofs.Plain.{is_plain_atom-from_first, all_after_first}
 use Rattle.term_text.proofs.printing.is_plain_atom.Goals as goal
 

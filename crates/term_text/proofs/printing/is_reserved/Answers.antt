@@ -1,4 +1,4 @@
-use Rattle.term_text.specs.Printed.{is_reserved}
+use Rattle.text_model.specs.Printed.{is_reserved}
 use Rattle.term_text.proofs.printing.is_reserved.Goals as goal
 
 pub returns : goal.returns

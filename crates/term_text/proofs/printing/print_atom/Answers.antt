@@ -1,8 +1,10 @@
 use Rattle.std.proofs.Common.{◌≡◌, ◌∙◌, ap, sym, true, false, ◌&&◌, not}
-use Rattle.term_text.specs.Printed.{is_plain_atom, is_reserved, is_unquoted}
+use Rattle.text_model.specs.Token.{is_plain_atom}
+use Rattle.text_model.specs.Printed.{is_reserved, is_unquoted}
 use Rattle.term_text.proofs.Plain.{printed_atom-plain, printed_atom-quoted}
 use Rattle.term_text.proofs.printing.print_atom.Goals as goal
-use Rattle.term_text.proofs.printing.print_atom.Goals.{else-is_plain_atom-via-then-is_plain_atom+else-not-is_reserved, else-is_plain_atom-via-else-is_plain_atom}
+use Rattle.term_text.proofs.printing.print_atom.Goals.{else-is_plain_atom-via-then-is_plain_atom+else-not-is_reserved}
+use Rattle.term_text.proofs.printing.print_atom.Goals.{else-is_plain_atom-via-else-is_plain_atom}
 
 pub returns-then-not-is_reserved : goal.returns-then-not-is_reserved
 returns-then-not-is_reserved c =

@@ -1,5 +1,5 @@
 use Rattle.std.proofs.Common.{◌≡◌, ◌++◌, flat_map}
-use Rattle.term_text.specs.Printed.{quoted_character}
+use Rattle.text_model.specs.Printed.{quoted_character}
 use Rattle.term_text.proofs.printing.print_quoted.Given as goal
 
 -- the characters so far are printed

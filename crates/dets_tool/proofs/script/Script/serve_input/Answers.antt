@@ -1,10 +1,9 @@
 use Rattle.std.proofs.Common.{◌≡◌, ◌≢◌, ℕ, ◌^◌, false, List, length, Option, Result, Ok, Err, inl, ap, ◌∙◌, refl, sym, subst, arith}
 use Rattle.std.proofs.lemmas.Result.{err_from_is_err_and}
 use Rattle.host_model.specs.Source.{Stream}
-use Rattle.term_text.specs.FeedState.{FeedState, total}
-use Rattle.term_text.specs.Script.{Answers}
-use Rattle.etf_model.specs.declared.fed.Fed.TheVariants.{Again}
-use Rattle.term_text.proofs.Existence.{nothing_fed}
+use Rattle.text_model.specs.Script.{blank, no_term, IsAnswer}
+use Rattle.text_model.specs.TextFeed.{TextFeed, total}
+use Rattle.text_model.proofs.ScriptFronts.{nothing_fed}
 use Rattle.dets_machine.specs.MachineValue.{MachineValue}
 use Rattle.dets_tool.specs.InputFeed.{InputFeedValue, Pulled}
 use Rattle.dets_tool.specs.declared.input_feed.Piece.{Piece}
@@ -32,12 +31,12 @@ loop-input-init g c =
       budget = omega (arith, room, ap total c.requires.text);
       open_input = ap (λ (f : InputFeedValue). f.state) c.in_ok-input.ensures;
       ready = record {
-        at_end = ap (λ (t : FeedState). t.finished) c.requires.text;
-        not_refused = ap (λ (t : FeedState). t.refused) c.requires.text;
+        at_end = ap (λ (t : TextFeed). t.finished) c.requires.text;
+        no_fault = ap (λ (t : TextFeed). t.fault) c.requires.text;
         not_starved = ap (λ (m : MachineValue). m.starved) c.requires.machine;
         counted = omega (arith, c.requires.replied);
       };
-      waiting = inl (subst (λ (t : FeedState). Answers false t.left (Ok Again)) (sym c.requires.text) nothing_fed);
+      waiting = inl (subst (λ (t : TextFeed). IsAnswer false t.left (no_term blank)) (sym c.requires.text) nothing_fed);
       taken = λ stream told ended. rw (c.requires.text, c.requires.machine, c.requires.replied) (taken_none stream _ _ _ told ended room);
       source_faults = refl;
       out_faults = omega arith;

@@ -1,48 +1,56 @@
-use Rattle.std.proofs.Common.{◌≡◌, ◌+◌, ◌<◌, length, take, get_or, refl, ◌∙◌, sym, subst, arith, ℕ, List}
-use Rattle.std.proofs.lemmas.List.{take_more}
-use Rattle.std.proofs.lemmas.Result.{err_from_is_err_and}
-use Rattle.term_text.specs.ReaderView.{reader_of}
-use Rattle.term_text.specs.Reaches.{Reaches, counted, IsInTime, IsOrderly}
-use Rattle.term_text.proofs.Reaching.{Reaches-push, Fails-at, orderly_step}
+use Rattle.std.proofs.Common.{◌≡◌, ◌+◌, ◌<◌, ◌∷◌, get_or, drop, length, Err, refl, ap, ◌∙◌, sym, subst, arith}
+use Rattle.std.proofs.lemmas.List.{take-append-drop}
+use Rattle.text_model.specs.declared.fault.TextFault.TheVariants.{Syntax}
+use Rattle.text_model.specs.Progress.{Progress, counted, reach}
+use Rattle.term_text.specs.ReaderView.{state_of, progress_of, IsReady}
+use Rattle.term_text.proofs.ReaderSteps.{reach_on_step, reach_fault, reach_long, ready_step, next_of, one_more}
 use Rattle.term_text.proofs.reader.Reader.run.Goals as goal
 
 pub loop-taken-init : goal.loop-taken-init
-loop-taken-init c = record { reached = (refl, refl); order = c.requires }
+loop-taken-init c = record { reached = λ more. refl; read = omega arith; ready = c.requires.ready }
 
-pub returns-then-is_stopped-clause-ok : goal.returns-then-is_stopped-clause-ok
-returns-then-is_stopped-clause-ok c = c.loop-taken.invariant.reached
-
-pub advance-requires-clause-order : goal.advance-requires-clause-order
-advance-requires-clause-order c = c.loop-taken.invariant.order
-
-pub returns-in_err-advance-clause-not_yet : goal.returns-in_err-advance-clause-not_yet
-returns-in_err-advance-clause-not_yet c = λ h.
-    let p = err_from_is_err_and c.from_residual.result c.from_residual.ensures.1 in
+pub returns-in-Err-clause-syntax : goal.returns-in-Err-clause-syntax
+returns-in-Err-clause-syntax c = λ o why e.
+    let bytes = c.args.bytes.now in
     let i = c.loop-taken.taken in
-    Fails-at _ _ c.args.bytes.now i (reader_of c.loop-taken.self) c.loop-taken.self.length (omega arith) c.loop-taken.invariant.reached
-    (sym c.is_stopped.ensures ∙ c.if-is_stopped.false) (c.in_err-advance.ensures.not_yet (cc (p.1, p.2)))
+    let h : i < length bytes = omega arith in
+    let going = sym c.is_stopped.ensures ∙ c.if-is_stopped.false in
+    ap (reach (progress_of c.args.self.now)) (sym (take-append-drop i bytes)) ∙ c.loop-taken.invariant.reached (drop i bytes)
+    ∙ ap (reach (progress_of c.loop-taken.self)) (next_of bytes i h)
+    ∙ reach_fault (progress_of c.loop-taken.self) (get_or bytes i 0) (drop (i + 1) bytes) o why
+    c.loop-taken.invariant.ready going (c.in-Err.ensures.syntax o why (ap Err (let fault : c.in-Err.fault ≡ Syntax o why = cc in fault)))
+
+pub returns-then-is_too_long-clause-syntax : goal.returns-then-is_too_long-clause-syntax
+returns-then-is_too_long-clause-syntax c = λ o why e.
+    let bytes = c.args.bytes.now in
+    let i = c.loop-taken.taken in
+    let h : i < length bytes = omega arith in
+    let going = sym c.is_stopped.ensures ∙ c.if-is_stopped.false in
+    let on = reach_on_step (progress_of c.loop-taken.self) (progress_of c.advance.new.self) (get_or bytes i 0) (state_of c.advance.new.self)
+    (drop (i + 1) bytes) c.loop-taken.invariant.ready going c.in-Ok.ensures.ok.0 c.in-Ok.ensures.ok.1 in
+    let long = reach_long (progress_of c.advance.new.self) (drop (i + 1) bytes) (sym c.is_too_long.ensures ∙ c.if-is_too_long.true) in
+    let failed = ap (reach (progress_of c.args.self.now)) (sym (take-append-drop i bytes)) ∙ c.loop-taken.invariant.reached (drop i bytes)
+    ∙ ap (reach (progress_of c.loop-taken.self)) (next_of bytes i h) ∙ on ∙ long in
+    cc
 
 pub loop-taken-preserved : goal.loop-taken-preserved
 loop-taken-preserved c =
     let bytes = c.args.bytes.now in
     let i = c.loop-taken.taken in
-    let x = get_or bytes i 0 in
     let h : i < length bytes = omega arith in
-    let moving = sym c.is_stopped.ensures ∙ c.if-is_stopped.false in
-    let count = c.in_ok-advance.ensures.count in
-    let time = subst (λ (k : ℕ). IsInTime (reader_of c.advance.new.self) k) count c.in_ok-advance.ensures.ok.1 in
-    let pushed = Reaches-push _ _ (take i bytes) _ _ x (reader_of c.advance.new.self) c.loop-taken.invariant.reached moving c.in_ok-advance.ensures.ok.0 time in
-    let order = orderly_step _ _ x (reader_of c.advance.new.self) c.loop-taken.invariant.order moving c.in_ok-advance.ensures.ok.0 time in
+    let going = sym c.is_stopped.ensures ∙ c.if-is_stopped.false in
+    let read : c.advance.new.self.read ≡ c.loop-taken.self.read + 1 = ap (λ (p : Progress). p.read) c.in-Ok.ensures.ok.1 in
+    let blank : c.advance.new.self.blank ≡ (counted (progress_of c.loop-taken.self) (state_of c.advance.new.self)).blank =
+    ap (λ (p : Progress). p.blank) c.in-Ok.ensures.ok.1 in
     record {
-      reached =
-          subst (λ (k : ℕ). Reaches (reader_of c.args.self.now) c.args.self.now.length (take (i + 1) bytes) (reader_of c.advance.new.self) k) (sym count)
-          (subst (λ (zs : List ℕ). Reaches (reader_of c.args.self.now) c.args.self.now.length zs (reader_of c.advance.new.self)
-          (counted c.loop-taken.self.length x)) (sym (take_more bytes i 0 h)) pushed);
-      order = subst (λ (k : ℕ). IsOrderly (reader_of c.advance.new.self) k) (sym count) order;
+      reached = λ more.
+          ap (reach (progress_of c.args.self.now)) (one_more bytes i more h)
+          ∙ c.loop-taken.invariant.reached (get_or bytes i 0 ∷ more)
+          ∙ reach_on_step (progress_of c.loop-taken.self) (progress_of c.advance.new.self) (get_or bytes i 0) (state_of c.advance.new.self) more
+          c.loop-taken.invariant.ready going c.in-Ok.ensures.ok.0 c.in-Ok.ensures.ok.1;
+      read = omega (arith, read, c.loop-taken.invariant.read);
+      ready =
+          subst IsReady (sym c.in-Ok.ensures.ok.1)
+          (ready_step (progress_of c.loop-taken.self) (get_or bytes i 0) (state_of c.advance.new.self) c.loop-taken.invariant.ready going c.in-Ok.ensures.ok.0
+          (rw (← blank, ← read) (sym c.is_too_long.ensures ∙ c.if-is_too_long.false)));
     }
-
-pub returns-clause-ok : goal.returns-clause-ok
-returns-clause-ok c =
-    let ended : c.loop-taken.taken ≡ length c.args.bytes.now = omega arith in
-    subst (λ (n : ℕ). Reaches (reader_of c.args.self.now) c.args.self.now.length (take n c.args.bytes.now) (reader_of c.loop-taken.self)
-    c.loop-taken.self.length) ended c.loop-taken.invariant.reached

@@ -1,11 +1,12 @@
-use Rattle.std.proofs.Common.{take}
-use Rattle.term_text.specs.ReaderView.{reader_of}
-use Rattle.term_text.specs.Reaches.{Reaches, IsOrderly}
+use Rattle.std.proofs.Common.{◌≡◌, ℕ, ◌+◌, List, ◌++◌, take}
+use Rattle.text_model.specs.Progress.{reach}
+use Rattle.term_text.specs.ReaderView.{progress_of, IsReady}
 use Rattle.term_text.proofs.reader.Reader.run.Given as goal
 
--- the bytes so far led here
+-- the bytes so far led here, whatever follows them
 abbrev pub invariant-loop-taken : goal.invariant-loop-taken
 invariant-loop-taken l = record {
-  reached : Reaches (reader_of l.fn.self) l.fn.self.length (take l.taken l.bytes) (reader_of l.self) l.self.length;
-  order : IsOrderly (reader_of l.self) l.self.length;
+  reached : (more : List ℕ) → reach (progress_of l.fn.self) (take l.taken l.bytes ++ more) ≡ reach (progress_of l.self) more;
+  read : l.self.read ≡ l.fn.self.read + l.taken;
+  ready : IsReady (progress_of l.self);
 }
