@@ -4,15 +4,16 @@ use Rattle.std.proofs.Common.{refl, ap, sym, ◌∙◌, subst, inl, inr, arith, 
 use Rattle.std.proofs.lemmas.List.{take_all, take_min, take_at, take-append-le, take-append-drop, length-take, length-take-le}
 use Rattle.std.proofs.Math.Seq.{take-add}
 use Rattle.dets_term.specs.TermValue.{TermValue}
+use Rattle.feed_model.specs.Meaning.{breaks, no_term}
 use Rattle.etf_model.specs.declared.fault.EtfFault.{EtfFault}
 use Rattle.etf_model.specs.declared.fault.EtfFault.TheVariants.{Short, LongTerm, Memory}
-use Rattle.etf_model.specs.declared.fed.Fed.{Fed}
+use Rattle.feed_model.specs.declared.fed.Fed.{Fed}
 use Rattle.etf_model.specs.Format.{Position}
 use Rattle.etf_model.specs.Exact.{Between}
 use Rattle.etf_model.specs.Answers.{IsFront, Answers}
 use Rattle.etf_model.specs.Spelling.{spelling, IsPart}
-use Rattle.etf_model.specs.SpellingFeed.{SpellingFeed, longest, front_of, failed}
-use Rattle.etf_model.specs.Next.{Gives, gives_behind, IsNext}
+use Rattle.etf_model.specs.SpellingFeed.{SpellingFeed, longest, front_of, spellings}
+use Rattle.feed_model.specs.Feed.{failed, Holds, Gives, gives_behind, IsNext}
 use Rattle.etf_model.specs.SpellingExact.{spelling-exact, spelling_lacks_long}
 use Rattle.etf_codec.specs.declared.term_reader.TermReader.{TermReader}
 use Rattle.etf_codec.specs.declared.feed.TermFeed.TheInside.{Inside}
@@ -145,26 +146,28 @@ part_left items few part = subst IsPart (take_all longest items (omega arith)) p
 
 -- a fault at the byte that breaks a rule
 broken : (old : SpellingFeed) (fault : EtfFault) → fault ≢ Short → fault ≢ Memory → Answers spelling old.offset (front_of old) (Err fault)
-    → Gives old (failed old fault) (Err fault)
+    → Holds spellings old (no_term (breaks fault))
 broken old Short other some h = absurd (other refl)
 broken old Memory other some h = absurd (some refl)
 broken old (LongTerm at) other some h = absurd ((spelling_lacks_long at).no_break old.offset old.offset h.front h.holds)
-broken old fault other some h = (h, refl)
+broken old fault other some h = h
+
+fails : (old new : SpellingFeed) (fault answer : EtfFault) → Holds spellings old (no_term (breaks fault)) → new ≡ failed old fault → answer ≡ fault
+    → Gives spellings old new (Err answer)
+fails old new fault answer holds kept same = subst (λ f. Gives spellings old new (Err f)) (sym same) (inl (holds, kept))
 
 pub gives_broken : (old new : SpellingFeed) (fault answer : EtfFault) → fault ≢ Short → fault ≢ Memory → Answers spelling old.offset (front_of old) (Err fault)
-    → new ≡ failed old fault → answer ≡ fault → Gives old new (Err answer)
-gives_broken old new fault answer other some h kept same =
-    subst (λ f. Gives old new (Err f)) (sym same) (subst (λ s. Gives old s (Err fault)) (sym kept) (broken old fault other some h))
+    → new ≡ failed old fault → answer ≡ fault → Gives spellings old new (Err answer)
+gives_broken old new fault answer other some h kept same = fails old new fault answer (broken old fault other some h) kept same
 
 pub gives_long : (old new : SpellingFeed) (start : ℕ) (answer : EtfFault) → start ≡ old.offset → longest ≤ length old.left → IsPart (front_of old)
-    → new ≡ failed old (LongTerm start) → answer ≡ LongTerm start → Gives old new (Err answer)
-gives_long old new start answer here many part kept same = subst (λ f. Gives old new (Err f)) (sym same) (here, many, part, kept)
+    → new ≡ failed old (LongTerm start) → answer ≡ LongTerm start → Gives spellings old new (Err answer)
+gives_long old new start answer here many part kept same = fails old new (LongTerm start) answer (here, many, part) kept same
 
 pub gives_short : (old new : SpellingFeed) (answer : EtfFault) → old.finished ≡ true → old.left ≢ [] → length old.left < longest → IsPart (front_of old)
-    → new ≡ failed old Short → answer ≡ Short → Gives old new (Err answer)
-gives_short old new answer finished some few part kept same =
-    subst (λ f. Gives old new (Err f)) (sym same) (finished, some, few, part_left old.left few part, kept)
+    → new ≡ failed old Short → answer ≡ Short → Gives spellings old new (Err answer)
+gives_short old new answer finished some few part kept same = fails old new Short answer (finished, some, few, part_left old.left few part) kept same
 
 -- where no fault came yet
-pub gives_first : (old new : SpellingFeed) (answer : Result Fed EtfFault) → old.fault ≡ None → Gives old new answer → IsNext old new answer
-gives_first old new answer none gives = subst (λ fault. gives_behind fault old new answer) (sym none) gives
+pub gives_first : (old new : SpellingFeed) (answer : Result Fed EtfFault) → old.fault ≡ None → Gives spellings old new answer → IsNext spellings old new answer
+gives_first old new answer none gives = subst (λ fault. gives_behind fault spellings old new answer) (sym none) gives

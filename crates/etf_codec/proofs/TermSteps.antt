@@ -1,8 +1,8 @@
 -- Terms with parts, as formats read them.
-use Rattle.std.proofs.Common.{◌≡◌, ℕ, zero, suc, ◌-◌, ◌<◌, ◌≤◌, ◌^◌, ◌⊎◌, max, Bool, true, false, cond, List, [], ◌∷◌, length, Result, Ok, Err, refl, ap}
+use Rattle.std.proofs.Common.{◌≡◌, ℕ, zero, suc, ◌-◌, ◌<◌, ◌≤◌, ◌^◌, ◌⊎◌, Bool, true, false, List, [], ◌∷◌, length, Result, Ok, Err, refl, ap}
 use Rattle.std.proofs.Common.{◌∙◌, inl, inr, arith}
 use Rattle.std.specs.Prelude.{IfErr}
-use Rattle.dets_term.specs.TermValue.{TermValue, tuple, nil, chain, elements, is_list, parts_depth, depth}
+use Rattle.dets_term.specs.TermValue.{TermValue, tuple, nil, chain, elements, depth}
 use Rattle.dets_term.specs.IsTerm.{built}
 use Rattle.dets_term.specs.Parts.{deepest, parts_depth-chain, depth-list_of}
 use Rattle.dets_term.specs.Limits.{built-within}

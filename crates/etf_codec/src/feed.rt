@@ -1,12 +1,12 @@
 ghost use Rattle.std.specs.Prelude.{◌≡◌, ◌<◌, ◌+◌, ◌^◌, [], ◌++◌, length, true, false, None, Ok, Err, IfOk, IfErr, OnOk, OnErr};
+ghost use Rattle.feed_model.specs.Feed.{empty_feed, total, with_piece, failed, Gives, IsNext};
 ghost use Rattle.etf_model.specs.Answers.{Answers};
-ghost use Rattle.etf_model.specs.SpellingFeed.{SpellingFeed, total, front_of, failed};
-ghost use Rattle.etf_model.specs.Next.{Gives, IsNext};
+ghost use Rattle.etf_model.specs.SpellingFeed.{SpellingFeed, front_of, spellings};
 ghost use Rattle.etf_model.specs.Spelling.{spelling, IsPart};
 
 use crate::cursor::Cursor;
 use crate::term_reader::TermReader;
-use crate::{EtfFault, Fed, Memory};
+use crate::{EtfFault, Fed, Feed, Memory};
 use bytes::BytesMut;
 use dets_term::Term;
 use std::alloc::Global;
@@ -47,7 +47,7 @@ impl Model for TermFeed {
 impl TermFeed {
     /// A stream of which nothing was fed yet.
     pub fn new(alloc: Global) -> TermFeed
-        ensures { result ≡ record { left = []; offset = 0; finished = false; fault = None } }
+        ensures { result ≡ empty_feed }
     {
         TermFeed {
             alloc,
@@ -64,7 +64,7 @@ impl TermFeed {
     pub fn feed(&mut self, piece: &[u8]) -> Result<(), Memory>
         requires not_finished { self.old.finished ≡ false }
         requires room { total self.old + length piece.now < 2 ^ 63 }
-        ensures ok { OnOk result (self.new ≡ record self.old { left = self.old.left ++ piece.now }) }
+        ensures ok { OnOk result (self.new ≡ with_piece self.old piece.now) }
         ensures err { OnErr result (self.new ≡ self.old) }
     {
         self.left.extend_from_slice(piece)?;
@@ -84,7 +84,7 @@ impl TermFeed {
     /// `Short` where the input ends inside a term, `LongTerm` where 16,777,216 bytes spell no whole term and break no
     /// rule, else the fault of the first byte that breaks a rule.
     pub fn next(&mut self) -> Result<Fed, EtfFault>
-        ensures { IsNext self.old self.new result }
+        ensures { IsNext spellings self.old self.new result }
     {
         if let Some(fault) = self.fault {
             return Err(fault);
@@ -102,7 +102,7 @@ impl TermFeed {
     /// Reads on, and takes the term that a front of what is left spells. After `Short` it goes on where the bytes
     /// ended, else from the first byte that is left.
     fn take_front(&mut self) -> Result<Term, EtfFault>
-        ensures term { IfOk result (λ term. Gives self.old self.new (Ok (Fed.Term term))) }
+        ensures term { IfOk result (λ term. Gives spellings self.old self.new (Ok (Fed.Term term))) }
         ensures fault { IfErr result (λ why. Answers spelling self.old.offset (front_of self.old) (Err why)) }
         ensures stays { OnErr result (self.new ≡ self.old) }
     {
@@ -131,7 +131,7 @@ impl TermFeed {
     /// What is answered where the bytes that are left, or as many as a spelling has at most, are a part of one.
     fn behind_the_last(&mut self) -> Result<Fed, EtfFault>
         requires { IsPart (front_of self.old) }
-        ensures { Gives self.old self.new result }
+        ensures { Gives spellings self.old self.new result }
     {
         if self.left.len() >= LONGEST {
             Err(self.keep_fault(EtfFault::LongTerm(self.offset)))
@@ -152,4 +152,28 @@ impl TermFeed {
         self.fault = Some(fault);
         fault
     }
+}
+
+impl Feed for TermFeed {
+    type Fault = EtfFault;
+
+    ghost use Rattle.etf_model.specs.SteadySpellings.{steady-spellings};
+
+    ghost meaning = { spellings };
+
+    ghost shows = { λ feed. feed };
+
+    fn feed(&mut self, piece: &[u8]) -> Result<(), Memory> {
+        self.feed(piece)
+    }
+
+    fn finish(&mut self) {
+        self.finish();
+    }
+
+    fn next(&mut self) -> Result<Fed, EtfFault> {
+        self.next()
+    }
+
+    ghost steady = { steady-spellings };
 }

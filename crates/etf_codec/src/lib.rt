@@ -7,7 +7,8 @@
 
 pub use decoding::decode;
 pub use encoding::encode;
-pub use etf_model::{EtfFault, Fed};
+pub use etf_model::EtfFault;
+pub use feed_model::{Fed, Feed};
 pub use feed::TermFeed;
 pub use skipping::skip;
 pub use std::alloc::AllocError as Memory;

@@ -6,7 +6,7 @@ use Rattle.etf_model.specs.Exact.{IsExact}
 use Rattle.etf_model.specs.Sharp.{IsSharp}
 use Rattle.etf_model.specs.Moved.{moved}
 use Rattle.etf_model.proofs.Moving.{IsMoving}
-use Rattle.etf_model.proofs.Beginnings.{OneOfThree, one_of_three, whole_or_break, break_or_part}
+use Rattle.etf_model.specs.Beginnings.{OneOfThree, one_of_three, whole_or_break, break_or_part}
 
 -- ---- two fronts of the same bytes
 

@@ -6,7 +6,7 @@ use Rattle.etf_model.specs.declared.fault.EtfFault.TheVariants.{Short}
 use Rattle.etf_model.specs.Format.{Reading}
 use Rattle.etf_model.specs.Spelling.{spelling, Spells, IsPart, IsBreak}
 use Rattle.etf_model.specs.SpellingExact.{spelling-exact}
-use Rattle.etf_model.proofs.Beginnings.{break_or_part}
+use Rattle.etf_model.specs.Beginnings.{break_or_part}
 
 -- what reading bytes answers
 abbrev pub reading : List ℕ → Reading TermValue

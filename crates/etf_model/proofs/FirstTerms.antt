@@ -1,124 +1,41 @@
--- Whatever a feed answered beside them, its terms so far are the first of its stream.
-use Rattle.std.proofs.Common.{◌≡◌, ℕ, ◌+◌, ◌⊎◌, true, List, [], ◌∷◌, ◌++◌, drop, Option, Some, None, Result, Ok, Err, refl, ap, ap₂, sym, ◌∙◌, subst, inl, inr}
-use Rattle.std.proofs.Common.{append_assoc}
+-- The terms of a feed of spellings are the first of its stream, also where more stands behind what was said to be its end.
+use Rattle.std.proofs.Common.{◌≡◌, ℕ, ◌+◌, true, List, [], ◌∷◌, ◌++◌, drop, refl, ap₂, sym, subst, append-nil}
 use Rattle.std.proofs.lemmas.List.{drop-append-le}
 use Rattle.dets_term.specs.TermValue.{TermValue}
+use Rattle.feed_model.specs.Meaning.{Behind}
+use Rattle.feed_model.specs.Feed.{empty_feed}
+use Rattle.feed_model.specs.Stream.{IsStream}
+use Rattle.feed_model.specs.History.{Call, IsHistory, fed_bytes, answered_terms}
+use Rattle.feed_model.specs.OneAnswer.{one_term, no_other, a_stream}
+use Rattle.feed_model.specs.FirstTerms.{first_terms}
 use Rattle.etf_model.specs.declared.fault.EtfFault.{EtfFault}
-use Rattle.etf_model.specs.declared.fault.EtfFault.TheVariants.{Short, LongTerm, Memory}
-use Rattle.etf_model.specs.declared.fed.Fed.{Fed}
-use Rattle.etf_model.specs.declared.fed.Fed.TheVariants.{Term, Again, End}
-use Rattle.etf_model.specs.Answers.{IsFront}
-use Rattle.etf_model.specs.SpellingFeed.{SpellingFeed, front_of, passed}
-use Rattle.etf_model.specs.History.{Call, empty_feed, IsHistory, fed_bytes, answered_terms, StreamGives}
-use Rattle.etf_model.specs.History.Call.{Piece, Finish, Answer}
-use Rattle.etf_model.specs.Next.{Gives, gives_behind}
-use Rattle.etf_model.specs.Spelling.{spelling}
-use Rattle.etf_model.proofs.Histories.{front_grows, term_grows, term_within}
-use Rattle.etf_model.proofs.OneAnswer.{no_more, same_first}
-
--- ---- what an answer takes
-
--- a term in front was taken
-record Takes (s new : SpellingFeed) (r : Result Fed EtfFault) : Type 0 where
-  term : TermValue
-  count : ℕ
-  answer : r ≡ Ok (Term term)
-  front : IsFront spelling (front_of s) term count
-  behind : new ≡ passed s count
-
--- nothing was taken, and no term was answered
-record Leaves (s new : SpellingFeed) (r : Result Fed EtfFault) : Type 0 where
-  offset : new.offset ≡ s.offset
-  left : new.left ≡ s.left
-  none : (calls : List Call) → answered_terms (Answer r ∷ calls) ≡ answered_terms calls
-
-leaves : (s new : SpellingFeed) (r : Result Fed EtfFault) → new.offset ≡ s.offset → new.left ≡ s.left
-    → ((calls : List Call) → answered_terms (Answer r ∷ calls) ≡ answered_terms calls) → Takes s new r ⊎ Leaves s new r
-leaves s new r offset left none = inr (record { offset = offset; left = left; none = none })
-
-takes_or_leaves : (s new : SpellingFeed) (r : Result Fed EtfFault) → Gives s new r → Takes s new r ⊎ Leaves s new r
-takes_or_leaves s new (Ok (Term t)) (count, front, e) =
-    inl (record { term = t; count = count; answer = refl; front = front; behind = e })
-takes_or_leaves s new (Ok Again) (f, few, p, e) =
-    leaves s new (Ok Again) (ap (λ (n : SpellingFeed). n.offset) e) (ap (λ (n : SpellingFeed). n.left) e) (λ calls. refl)
-takes_or_leaves s new (Ok End) (f, none, e) =
-    leaves s new (Ok End) (ap (λ (n : SpellingFeed). n.offset) e) (ap (λ (n : SpellingFeed). n.left) e) (λ calls. refl)
-takes_or_leaves s new (Err Short) (f, some, few, p, e) =
-    leaves s new (Err Short) (ap (λ (n : SpellingFeed). n.offset) e) (ap (λ (n : SpellingFeed). n.left) e) (λ calls. refl)
-takes_or_leaves s new (Err (LongTerm at)) (here, long, p, e) =
-    leaves s new (Err (LongTerm at)) (ap (λ (n : SpellingFeed). n.offset) e) (ap (λ (n : SpellingFeed). n.left) e) (λ calls. refl)
-takes_or_leaves s new (Err Memory) e =
-    leaves s new (Err Memory) (ap (λ (n : SpellingFeed). n.offset) e) (ap (λ (n : SpellingFeed). n.left) e) (λ calls. refl)
-takes_or_leaves s new (Err fault) h =
-    leaves s new (Err fault) (ap (λ (n : SpellingFeed). n.offset) h.1) (ap (λ (n : SpellingFeed). n.left) h.1) (λ calls. refl)
-
-next_takes_or_leaves : (came : Option EtfFault) (s new : SpellingFeed) (r : Result Fed EtfFault) → gives_behind came s new r
-    → Takes s new r ⊎ Leaves s new r
-next_takes_or_leaves None s new r h = takes_or_leaves s new r h
-next_takes_or_leaves (Some fault) s new r h =
-    leaves s new r (ap (λ (n : SpellingFeed). n.offset) h.1) (ap (λ (n : SpellingFeed). n.left) h.1)
-    (λ calls. ap (λ q. answered_terms (Answer q ∷ calls)) h.0)
-
--- ---- the terms of some calls
+use Rattle.etf_model.specs.SpellingFeed.{spellings}
+use Rattle.etf_model.specs.SteadySpellings.{term_stays, steady-spellings}
 
 -- the first of some terms
 abbrev AreFirst : (front all : List TermValue) → Type 0
 AreFirst front all = (more : List TermValue) × (all ≡ front ++ more)
 
--- the terms of these calls are the first of whatever the stream gives
-abbrev GivesFirst : List Call → Type 0
-GivesFirst calls = (s : SpellingFeed) (rest : List ℕ) (ts : List TermValue) (answer : Result Fed EtfFault) → IsHistory s calls
-    → StreamGives s.offset (s.left ++ (fed_bytes calls ++ rest)) ts answer → AreFirst (answered_terms calls) ts
+first_stay : (start : ℕ) (bytes more : List ℕ) (us vs ts : List TermValue) (x y : Behind EtfFault) → IsStream spellings true start bytes (us ++ vs) x
+    → IsStream spellings true start (bytes ++ more) ts y → AreFirst us ts
+first_stay start bytes more [] vs ts x y h k = (ts, refl)
+first_stay start bytes more (u ∷ us) vs [] x y (count, front, h) k =
+    absurd (no_other spellings steady-spellings true start (bytes ++ more) y u count k (term_stays bytes more u count front))
+first_stay start bytes more (u ∷ us) vs (t ∷ ts) x y (count, front, h) (other, there, k) =
+    let same = one_term spellings steady-spellings true start (bytes ++ more) u t count other (term_stays bytes more u count front) there in
+    let moved = subst (λ n. IsStream spellings true (start + n) (drop n (bytes ++ more)) ts y) same.1 k in
+    let dropped = drop-append-le count bytes more (steady-spellings.within true start bytes u count front).1 in
+    let on = first_stay (start + count) (drop count bytes) more us vs ts x y h
+        (subst (λ l. IsStream spellings true (start + count) l ts y) dropped moved) in
+    (on.0, ap₂ (λ v vs. v ∷ vs) (sym same.0) on.1)
 
-behind_piece : (calls : List Call) → GivesFirst calls → (piece : List ℕ) → GivesFirst (Piece piece ∷ calls)
-behind_piece calls first piece s rest ts answer h given =
-    let fed = fed_bytes calls in
-    let same = ap (λ l. s.left ++ l) (append_assoc piece fed rest) ∙ sym (append_assoc s.left piece (fed ++ rest)) in
-    first (record s { left = s.left ++ piece }) rest ts answer h.1
-    (subst (λ bytes. StreamGives s.offset bytes ts answer) same given)
-
--- a term in front is the first that the stream gives
-module _ (calls : List Call) (first : GivesFirst calls) (s : SpellingFeed) (t : TermValue) (count : ℕ) (front : IsFront spelling (front_of s) t count) where
-  behind_term : (rest : List ℕ) (ts : List TermValue) (answer : Result Fed EtfFault) → IsHistory (passed s count) calls
-      → StreamGives s.offset (s.left ++ (fed_bytes calls ++ rest)) ts answer → AreFirst (t ∷ answered_terms calls) ts
-  behind_term rest [] answer h given =
-      let more = fed_bytes calls ++ rest in
-      let here = front_grows (λ bytes. IsFront spelling bytes t count) (term_grows t count) s.left more front in
-      absurd (no_more s.offset (s.left ++ more) answer t count given here)
-  behind_term rest (u ∷ us) answer h (other, there, given) =
-      let more = fed_bytes calls ++ rest in
-      let here = front_grows (λ bytes. IsFront spelling bytes t count) (term_grows t count) s.left more front in
-      let same = same_first (s.left ++ more) t u count other here there in
-      let moved = subst (λ n. StreamGives (s.offset + n) (drop n (s.left ++ more)) us answer) same.1 given in
-      let behind = drop-append-le count s.left more (term_within s.left t count front) in
-      let at = subst (λ bytes. StreamGives (s.offset + count) bytes us answer) behind moved in
-      let rests = first (passed s count) rest us answer h at in
-      (rests.0, ap₂ (λ x xs. x ∷ xs) (sym same.0) rests.1)
-
-behind_answer : (calls : List Call) → GivesFirst calls → (s new : SpellingFeed) (r : Result Fed EtfFault)
-    → Takes s new r ⊎ Leaves s new r → (rest : List ℕ) (ts : List TermValue) (answer : Result Fed EtfFault)
-    → IsHistory new calls → StreamGives s.offset (s.left ++ (fed_bytes calls ++ rest)) ts answer
-    → AreFirst (answered_terms (Answer r ∷ calls)) ts
-behind_answer calls first s new r (inl took) rest ts answer h given =
-    subst (λ q. AreFirst (answered_terms (Answer q ∷ calls)) ts) (sym took.answer)
-    (behind_term calls first s took.term took.count took.front rest ts answer
-    (subst (λ n. IsHistory n calls) took.behind h) given)
-behind_answer calls first s new r (inr left) rest ts answer h given =
-    let more = fed_bytes calls ++ rest in
-    let at = subst (λ n. StreamGives n (s.left ++ more) ts answer) (sym left.offset) given in
-    subst (λ us. AreFirst us ts) (sym (left.none calls))
-    (first new rest ts answer h (subst (λ bytes. StreamGives new.offset (bytes ++ more) ts answer) (sym left.left) at))
-
-gives_first : (calls : List Call) → GivesFirst calls
-gives_first [] s rest ts answer h given = (ts, refl)
-gives_first (Piece piece ∷ calls) s rest ts answer h given =
-    behind_piece calls (gives_first calls) piece s rest ts answer h given
-gives_first (Finish ∷ calls) s rest ts answer h given =
-    gives_first calls (record s { finished = true }) rest ts answer h given
-gives_first (Answer r ∷ calls) s rest ts answer (new, next, h) given =
-    behind_answer calls (gives_first calls) s new r (next_takes_or_leaves s.fault s new r next) rest ts answer h given
-
-pub first_terms : (calls : List Call) (rest : List ℕ) (ts : List TermValue) (answer : Result Fed EtfFault)
-    → IsHistory empty_feed calls → StreamGives 0 (fed_bytes calls ++ rest) ts answer
+pub first_spelled : (calls : List (Call EtfFault)) (rest : List ℕ) (ts : List TermValue) (behind : Behind EtfFault)
+    → IsHistory spellings empty_feed calls → IsStream spellings true 0 (fed_bytes calls ++ rest) ts behind
     → (more : List TermValue) × (ts ≡ answered_terms calls ++ more)
-first_terms calls rest ts answer h given = gives_first calls empty_feed rest ts answer h given
+first_spelled calls rest ts behind h given =
+    let fed = fed_bytes calls in
+    let whole = a_stream spellings steady-spellings true 0 (fed ++ []) in
+    let first = first_terms spellings steady-spellings calls [] whole.0 whole.1 h (λ f. refl) whole.2 in
+    first_stay 0 fed rest (answered_terms calls) first.0 ts whole.1 behind
+    (subst (λ l. IsStream spellings true 0 l (answered_terms calls ++ first.0) whole.1) (append-nil fed)
+    (subst (λ us. IsStream spellings true 0 (fed ++ []) us whole.1) first.1 whole.2)) given

@@ -2,7 +2,6 @@
 pub mod Sharpness
 pub mod Moving
 pub mod SpellingSharp
-pub mod Beginnings
 pub mod Breaks
 pub mod ByReading
 pub mod Computing
@@ -12,7 +11,4 @@ pub mod WholeLeaves
 pub mod WholeTerms
 pub mod CanonicalSpells
 pub mod OneDecoding
-pub mod OneAnswer
-pub mod Histories
 pub mod FirstTerms
-pub mod Streams

@@ -16,8 +16,6 @@ pub mod Answers
 pub mod Decoding
 pub mod Skipping
 pub mod SpellingFeed
-pub mod Next
-pub mod History
 -- ---- middles: that the reading of a format agrees with its relations, and that the last byte of a break is the first to
 -- break a rule
 pub mod Exact
@@ -31,3 +29,5 @@ pub mod SpellingExact
 pub mod SkippingKept
 pub mod SkippingExact
 pub mod CanonicalWholes
+pub mod Beginnings
+pub mod SteadySpellings

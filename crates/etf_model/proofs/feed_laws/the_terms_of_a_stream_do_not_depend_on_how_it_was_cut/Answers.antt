@@ -1,8 +1,10 @@
-use Rattle.etf_model.proofs.Histories.{terms_of_stream, same_terms}
+use Rattle.feed_model.specs.Histories.{terms_of_stream, same_terms}
+use Rattle.etf_model.specs.SpellingFeed.{spellings}
+use Rattle.etf_model.specs.SteadySpellings.{steady-spellings}
 use Rattle.etf_model.proofs.feed_laws.the_terms_of_a_stream_do_not_depend_on_how_it_was_cut.Goals as goal
 
 pub returns-clause-given : goal.returns-clause-given
-returns-clause-given c = terms_of_stream
+returns-clause-given c = terms_of_stream spellings steady-spellings
 
 pub returns-clause-same : goal.returns-clause-same
-returns-clause-same c = same_terms
+returns-clause-same c = same_terms spellings steady-spellings

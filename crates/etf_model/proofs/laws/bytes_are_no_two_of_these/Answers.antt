@@ -1,6 +1,6 @@
 use Rattle.etf_model.specs.Spelling.{spelling}
 use Rattle.etf_model.specs.SpellingExact.{spelling-exact}
-use Rattle.etf_model.proofs.Beginnings.{whole_or_break, whole_or_part, break_or_part}
+use Rattle.etf_model.specs.Beginnings.{whole_or_break, whole_or_part, break_or_part}
 use Rattle.etf_model.proofs.laws.bytes_are_no_two_of_these.Goals as goal
 
 pub returns-clause-spelling_or_break : goal.returns-clause-spelling_or_break

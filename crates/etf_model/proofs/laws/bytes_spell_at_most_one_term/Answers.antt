@@ -1,7 +1,7 @@
 use Rattle.std.proofs.Common.{[], refl}
 use Rattle.etf_model.specs.Spelling.{spelling}
 use Rattle.etf_model.specs.SpellingExact.{spelling-exact}
-use Rattle.etf_model.proofs.Beginnings.{same_whole}
+use Rattle.etf_model.specs.Beginnings.{same_whole}
 use Rattle.etf_model.proofs.laws.bytes_spell_at_most_one_term.Goals as goal
 
 pub returns : goal.returns

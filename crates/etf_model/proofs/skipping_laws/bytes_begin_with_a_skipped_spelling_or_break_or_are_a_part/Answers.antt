@@ -1,7 +1,7 @@
 use Rattle.std.proofs.Common.{ℕ, List, ◌⊎◌, inl, inr}
 use Rattle.etf_model.specs.Fronts.{Begins}
 use Rattle.etf_model.specs.Skipping.{skipped, SkipSpelled, SkipPart, BeginsWithSkipBreak}
-use Rattle.etf_model.proofs.Beginnings.{one_of_three}
+use Rattle.etf_model.specs.Beginnings.{one_of_three}
 use Rattle.etf_model.specs.SkippingExact.{skipped-exact}
 use Rattle.etf_model.proofs.skipping_laws.bytes_begin_with_a_skipped_spelling_or_break_or_are_a_part.Goals as goal
 

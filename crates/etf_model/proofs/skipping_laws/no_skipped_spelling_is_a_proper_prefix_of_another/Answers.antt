@@ -1,5 +1,5 @@
 use Rattle.etf_model.specs.Skipping.{skipped}
-use Rattle.etf_model.proofs.Beginnings.{no_proper_prefix}
+use Rattle.etf_model.specs.Beginnings.{no_proper_prefix}
 use Rattle.etf_model.specs.SkippingExact.{skipped-exact}
 use Rattle.etf_model.proofs.skipping_laws.no_skipped_spelling_is_a_proper_prefix_of_another.Goals as goal
 

@@ -1,5 +1,5 @@
 use Rattle.etf_model.specs.Skipping.{skipped}
-use Rattle.etf_model.proofs.Beginnings.{whole_or_break, whole_or_part, break_or_part}
+use Rattle.etf_model.specs.Beginnings.{whole_or_break, whole_or_part, break_or_part}
 use Rattle.etf_model.specs.SkippingExact.{skipped-exact}
 use Rattle.etf_model.proofs.skipping_laws.skipped_bytes_are_no_two_of_these.Goals as goal
 

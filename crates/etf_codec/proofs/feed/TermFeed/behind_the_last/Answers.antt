@@ -20,9 +20,11 @@ pub returns-then-not-self : goal.returns-then-not-self
 returns-then-not-self c =
     let few : length c.args.self.now.left < longest =
     omega (arith, c.if-len-ge-LONGEST.false, c.len.ensures.value, left_is c.self.inside c.args.self.now c.self.view_is) in (
-      ap (λ (s : SpellingFeed). s.finished) (sym c.self.view_is) ∙ c.if-not-self.true,
-      few,
-      part_left c.args.self.now.left few c.requires,
+      (
+        ap (λ (s : SpellingFeed). s.finished) (sym c.self.view_is) ∙ c.if-not-self.true,
+        few,
+        part_left c.args.self.now.left few c.requires,
+      ),
       refl,
     )
 

@@ -1,5 +1,6 @@
 use Rattle.std.proofs.Common.{Err, ap, sym, ◌∙◌, subst}
-use Rattle.etf_model.specs.SpellingFeed.{SpellingFeed, front_of, failed}
+use Rattle.feed_model.specs.Feed.{failed}
+use Rattle.etf_model.specs.SpellingFeed.{SpellingFeed, front_of}
 use Rattle.etf_model.specs.Spelling.{spelling, IsPart}
 use Rattle.etf_model.specs.Answers.{Answers}
 use Rattle.etf_codec.proofs.FeedSteps.{gives_first, gives_broken}

@@ -1,8 +1,8 @@
 use Rattle.std.proofs.Common.{ℕ, ◌+◌, ◌-◌, ◌≤◌, List, length, Ok, Err, refl, ap, sym, subst, arith, length-drop}
 use Rattle.std.proofs.lemmas.List.{length-take}
-use Rattle.etf_model.specs.declared.fed.Fed.TheVariants.{Term}
-use Rattle.etf_model.specs.SpellingFeed.{SpellingFeed, longest, front_of}
-use Rattle.etf_model.specs.Next.{Gives}
+use Rattle.feed_model.specs.declared.fed.Fed.TheVariants.{Term}
+use Rattle.etf_model.specs.SpellingFeed.{SpellingFeed, longest, front_of, spellings}
+use Rattle.feed_model.specs.Feed.{Gives}
 use Rattle.etf_model.specs.Answers.{Answers}
 use Rattle.etf_model.specs.Spelling.{spelling}
 use Rattle.etf_codec.specs.TermReader.{IsFresh, ReaderReads}
@@ -71,7 +71,7 @@ returns-in-Ok-clause-term c =
     let front = term_front a c.self.invariant c.replace-reader.result c.replace-reader.ensures.value c.new-cursor.result position c.in-Ok.term c.read.new.cursor
     (c.offset.result - a.offset) c.in-Ok.ensures
     (ap (λ (n : ℕ). n - a.offset) c.offset.ensures) in
-    subst (λ (old : SpellingFeed). Gives old
+    subst (λ (old : SpellingFeed). Gives spellings old
     (record { left = c.advance.new.self.items; offset = a.offset + (c.offset.result - a.offset); finished = a.finished; fault = a.fault })
     (Ok (Term c.in-Ok.term))) c.self.view_is (
       c.offset.result - a.offset,
