@@ -127,11 +127,7 @@ pub mod OneSentence
 pub mod TermLengths
 pub mod Scripts
 pub mod ScriptFronts
-pub mod FeedAnswers
-pub mod FeedHistories
-pub mod FirstTerms
-pub mod WholeStreams
-pub mod Streams
+pub mod SteadyTexts
 -- ---- the printed form of a term
 pub mod PrintedBytes
 pub mod PrintedTokens

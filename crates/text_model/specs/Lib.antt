@@ -11,9 +11,8 @@ pub mod Sentence
 pub mod Faults
 pub mod Script
 pub mod ScriptFronts
--- ---- feeds of printed terms, and the streams that they read
+-- ---- feeds of printed terms, and what the bytes of their streams mean
 pub mod TextFeed
-pub mod History
 -- ---- middles: the machine that takes tokens, and the one that reads bytes
 pub mod Nest
 pub mod Reader

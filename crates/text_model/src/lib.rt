@@ -4,7 +4,6 @@
 //! script, which is the list of the terms that stand in them and what stands behind the last. `term_text` has the code.
 #![tactic(auto)]
 
-pub use etf_model::Fed;
 pub use fault::{TextFault, TextWhy};
 pub use mark::Mark;
 
