@@ -3,7 +3,8 @@ ghost use Rattle.text_model.specs.declared.fault.TextFault.TheVariants.{Syntax};
 ghost use Rattle.text_model.specs.declared.fault.TextWhy.{TextWhy};
 ghost use Rattle.text_model.specs.Sentence.{ends};
 ghost use Rattle.text_model.specs.Script.{fault, no_term, IsAnswer};
-ghost use Rattle.text_model.specs.TextFeed.{total, passed, failed, Gives, IsNextOf};
+ghost use Rattle.feed_model.specs.Feed.{empty_feed, total, with_piece, passed, failed, Gives, IsNext};
+ghost use Rattle.text_model.specs.TextFeed.{texts};
 ghost use Rattle.text_nest.specs.Strays.{is_stopped};
 ghost use Rattle.text_nest.specs.NestView.{nest_of};
 ghost use Rattle.term_text.specs.FeedReads.{HasRead, HasReadOn};
@@ -11,10 +12,11 @@ ghost use Rattle.term_text.specs.FeedReads.{HasRead, HasReadOn};
 use crate::Memory;
 use crate::reader::{Reader, is_white};
 use bytes::BytesMut;
+use feed_model::{Fed, Feed};
 use std::alloc::Global;
 use std::marker::Model;
 use std::mem;
-use text_model::{Fed, TextFault, TextWhy};
+use text_model::{TextFault, TextWhy};
 
 /// A stream of printed terms that comes in pieces.
 #[derive(Drop)]
@@ -33,9 +35,9 @@ pub struct TextFeed {
 }
 
 impl Model for TextFeed {
-    ghost use Rattle.text_model.specs.TextFeed.{TextFeed as Feed};
+    ghost use Rattle.text_model.specs.TextFeed.{TextFeed as Shown};
 
-    ghost Value = { Feed };
+    ghost Value = { Shown };
 
     ghost view = { λ a. record { left = a.left.items; offset = a.offset; finished = a.finished; fault = a.fault } };
 
@@ -47,7 +49,7 @@ impl Model for TextFeed {
 impl TextFeed {
     /// A stream of which nothing was fed yet.
     pub fn new(alloc: Global) -> TextFeed
-        ensures { result ≡ record { left = []; offset = 0; finished = false; fault = None } }
+        ensures { result ≡ empty_feed }
     {
         TextFeed {
             alloc,
@@ -64,7 +66,7 @@ impl TextFeed {
     pub fn feed(&mut self, piece: &[u8]) -> Result<(), Memory>
         requires not_finished { self.old.finished ≡ false }
         requires room { total self.old + length piece.now < 2 ^ 63 }
-        ensures ok { OnOk result (self.new ≡ record self.old { left = self.old.left ++ piece.now }) }
+        ensures ok { OnOk result (self.new ≡ with_piece self.old piece.now) }
         ensures err { OnErr result (self.new ≡ self.old) }
     {
         self.left.extend_from_slice(piece)?;
@@ -81,7 +83,7 @@ impl TextFeed {
     /// The next term, where it stands in front of what is left with its full stop; else whether more input is needed. A
     /// fault has the offset in the stream, and comes again at each later call; but `Memory` changes nothing.
     pub fn next(&mut self) -> Result<Fed, TextFault>
-        ensures next { IsNextOf self.old self.new result }
+        ensures next { IsNext texts self.old self.new result }
         ensures keeps { (total self.new ≡ total self.old) × (self.new.finished ≡ self.old.finished) }
     {
         match self.fault {
@@ -92,7 +94,7 @@ impl TextFeed {
 
     /// The same where no fault came yet.
     fn read_next(&mut self) -> Result<Fed, TextFault>
-        ensures gives { Gives self.old self.new result }
+        ensures gives { Gives texts self.old self.new result }
         ensures keeps { (total self.new ≡ total self.old) × (self.new.finished ≡ self.old.finished) }
     {
         match self.read_on() {
@@ -116,7 +118,7 @@ impl TextFeed {
     /// Reads what was fed and not read yet, and answers. The offset of a fault is that in what is left, which will then be
     /// read again from its first byte on.
     fn read_on(&mut self) -> Result<Fed, TextFault>
-        ensures fed { (fed : Fed) → result ≡ Ok fed → Gives self.old self.new (Ok fed) }
+        ensures fed { (fed : Fed) → result ≡ Ok fed → Gives texts self.old self.new (Ok fed) }
         ensures syntax { (o : ℕ) (why : TextWhy) → result ≡ Err (Syntax o why) → IsAnswer self.old.finished self.old.left (no_term (fault o why)) }
         ensures err { OnErr result (self.new ≡ self.old) }
         ensures keeps { (total self.new ≡ total self.old) × (self.new.finished ≡ self.old.finished) }
@@ -132,7 +134,7 @@ impl TextFeed {
     /// What is answered where the reader has come so far.
     fn answer(&mut self, reader: Reader, read: usize) -> Result<Fed, TextFault>
         requires { HasReadOn self.old.left read reader }
-        ensures fed { (fed : Fed) → result ≡ Ok fed → Gives self.old self.new (Ok fed) }
+        ensures fed { (fed : Fed) → result ≡ Ok fed → Gives texts self.old self.new (Ok fed) }
         ensures syntax { (o : ℕ) (why : TextWhy) → result ≡ Err (Syntax o why) → IsAnswer self.old.finished self.old.left (no_term (fault o why)) }
         ensures err { OnErr result (self.new ≡ self.old) }
         ensures keeps { (total self.new ≡ total self.old) × (self.new.finished ≡ self.old.finished) }
@@ -159,7 +161,7 @@ impl TextFeed {
     fn behind_stop(&mut self, reader: Reader, read: usize) -> Result<Fed, TextFault>
         requires read { HasRead self.old.left read reader }
         requires stopped { is_stopped (nest_of reader.nest).place ≡ true }
-        ensures fed { (fed : Fed) → result ≡ Ok fed → Gives self.old self.new (Ok fed) }
+        ensures fed { (fed : Fed) → result ≡ Ok fed → Gives texts self.old self.new (Ok fed) }
         ensures syntax { (o : ℕ) (why : TextWhy) → result ≡ Err (Syntax o why) → IsAnswer self.old.finished self.old.left (no_term (fault o why)) }
         ensures err { OnErr result (self.new ≡ self.old) }
         ensures keeps { (total self.new ≡ total self.old) × (self.new.finished ≡ self.old.finished) }
@@ -202,6 +204,30 @@ impl TextFeed {
         self.reader = reader;
         self.read = read;
     }
+}
+
+impl Feed for TextFeed {
+    type Fault = TextFault;
+
+    ghost use Rattle.text_model.proofs.SteadyTexts.{steady-texts};
+
+    ghost meaning = { texts };
+
+    ghost shows = { λ feed. feed };
+
+    fn feed(&mut self, piece: &[u8]) -> Result<(), Memory> {
+        self.feed(piece)
+    }
+
+    fn finish(&mut self) {
+        self.finish();
+    }
+
+    fn next(&mut self) -> Result<Fed, TextFault> {
+        self.next()
+    }
+
+    ghost steady = { steady-texts };
 }
 
 /// Whether a full stop in front of these bytes is the end of a term; `None` where the next piece decides.

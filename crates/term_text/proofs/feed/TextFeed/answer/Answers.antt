@@ -1,7 +1,8 @@
 use Rattle.std.proofs.Common.{◌≡◌, true, false, Ok, refl, ap, ◌∙◌, sym, subst}
-use Rattle.etf_model.specs.declared.fed.Fed.TheVariants.{Again, End}
+use Rattle.feed_model.specs.declared.fed.Fed.TheVariants.{Again, End}
 use Rattle.text_model.specs.Script.{fault, no_term, IsAnswer}
-use Rattle.text_model.specs.TextFeed.{TextFeed, Gives}
+use Rattle.feed_model.specs.Feed.{Gives}
+use Rattle.text_model.specs.TextFeed.{TextFeed, texts}
 use Rattle.term_text.proofs.FeedSteps.{again_answer, blank_answer, last_answer, begun_answer}
 use Rattle.term_text.proofs.feed.TextFeed.answer.Goals as goal
 
@@ -11,8 +12,8 @@ returns-then-not-self-clause-fed c = λ fed e.
     let going = sym c.is_stopped.ensures ∙ c.if-is_stopped.false in
     let goes_on : feed.finished ≡ false = sym (ap (λ (f : TextFeed). f.finished) c.self.view_is) ∙ c.if-not-self.true in
     let same : Again ≡ fed = cc in
-    subst (λ g. Gives feed c.keep.new.self (Ok g)) same
-    (goes_on, again_answer feed.left c.args.read c.args.reader c.requires going, c.keep.ensures)
+    subst (λ g. Gives texts feed c.keep.new.self (Ok g)) same
+    ((goes_on, again_answer feed.left c.args.read c.args.reader c.requires going), c.keep.ensures)
 
 pub returns-in-None-clause-fed : goal.returns-in-None-clause-fed
 returns-in-None-clause-fed c = λ fed e.
@@ -20,9 +21,8 @@ returns-in-None-clause-fed c = λ fed e.
     let going = sym c.is_stopped.ensures ∙ c.if-is_stopped.false in
     let finished : feed.finished ≡ true = sym (ap (λ (f : TextFeed). f.finished) c.self.view_is) ∙ c.if-not-self.false in
     let same : End ≡ fed = cc in
-    subst (λ g. Gives feed c.keep-in-None.new.self (Ok g)) same (
-      finished,
-      blank_answer feed.left c.args.read c.args.reader c.requires going (c.in-None.ensures.none refl) (sym c.is_blank.ensures ∙ c.if-is_blank.true),
+    subst (λ g. Gives texts feed c.keep-in-None.new.self (Ok g)) same (
+      (finished, blank_answer feed.left c.args.read c.args.reader c.requires going (c.in-None.ensures.none refl) (sym c.is_blank.ensures ∙ c.if-is_blank.true)),
       c.keep-in-None.ensures,
     )
 

@@ -1,8 +1,9 @@
 use Rattle.std.proofs.Common.{◌≡◌, ◌-◌, Some, None, true, false, Ok, inr, ap, ◌∙◌, subst}
-use Rattle.etf_model.specs.declared.fed.Fed.TheVariants.{Term, Again}
+use Rattle.feed_model.specs.declared.fed.Fed.TheVariants.{Term, Again}
 use Rattle.text_model.specs.declared.fault.TextWhy.TheVariants.{BadToken}
 use Rattle.text_model.specs.Script.{fault, no_term, IsAnswer}
-use Rattle.text_model.specs.TextFeed.{TextFeed, Gives}
+use Rattle.feed_model.specs.Feed.{Gives}
+use Rattle.text_model.specs.TextFeed.{TextFeed, texts}
 use Rattle.term_text.proofs.FeedSteps.{undecided_answer, no_end_answer, term_answer, ended_as}
 use Rattle.term_text.proofs.feed.TextFeed.behind_stop.Goals as goal
 
@@ -13,7 +14,7 @@ returns-in-None-clause-fed c = λ fed e.
     c.is_end.ensures c.as_slice.ensures (ap (λ (f : TextFeed). f.left) c.self.view_is) (ap (λ (f : TextFeed). f.finished) c.self.view_is) c.in-None.is in
     let open_end = undecided_answer feed.finished feed.left c.args.read c.args.reader c.requires.read c.requires.stopped ended in
     let same : Again ≡ fed = cc in
-    subst (λ g. Gives feed c.keep.new.self (Ok g)) same (open_end.0, inr open_end.1, c.keep.ensures)
+    subst (λ g. Gives texts feed c.keep.new.self (Ok g)) same ((open_end.0, inr open_end.1), c.keep.ensures)
 
 pub returns-in-Some-clause-fed : goal.returns-in-Some-clause-fed
 returns-in-Some-clause-fed c = λ fed e.
@@ -22,7 +23,7 @@ returns-in-Some-clause-fed c = λ fed e.
     c.is_end.ensures c.as_slice.ensures (ap (λ (f : TextFeed). f.left) c.self.view_is) (ap (λ (f : TextFeed). f.finished) c.self.view_is)
     (c.in-Some-true.is ∙ ap Some c.in-Some-true.field-0-test) in
     let same : Term c.in-Some.term ≡ fed = cc in
-    subst (λ g. Gives feed c.pass.new.self (Ok g)) same (
+    subst (λ g. Gives texts feed c.pass.new.self (Ok g)) same (
       c.args.read,
       term_answer feed.finished feed.left c.args.read c.args.reader c.in-Some.term c.requires.read (c.into_term.ensures.some c.in-Some.term c.in-Some.is) ended,
       c.pass.ensures,

@@ -1,6 +1,7 @@
-use Rattle.std.proofs.Common.{◌≡◌, ◌+◌, ◌≤◌, length, Err, refl, ap, ◌∙◌, sym, subst}
+use Rattle.std.proofs.Common.{◌≡◌, ◌+◌, ◌≤◌, length, Err, refl, ap, inl, ◌∙◌, sym, subst}
 use Rattle.text_model.specs.declared.fault.TextFault.TheVariants.{Syntax}
-use Rattle.text_model.specs.TextFeed.{TextFeed, failed, Gives}
+use Rattle.feed_model.specs.Feed.{failed, Gives}
+use Rattle.text_model.specs.TextFeed.{TextFeed, texts}
 use Rattle.text_model.proofs.FaultOffsets.{answer_within}
 use Rattle.term_text.proofs.feed.TextFeed.read_next.Goals as goal
 
@@ -21,4 +22,4 @@ returns-in-Err-Syntax-clause-gives c =
     let fault : c.fail.result ≡ Syntax (feed.offset + at) why = c.fail.ensures.fault ∙ ap (λ (f : TextFeed). Syntax (f.offset + at) why) same in
     let new : c.fail.new.self ≡ failed feed (Syntax (feed.offset + at) why) =
     c.fail.ensures.failed ∙ ap (λ (f : TextFeed). failed f (Syntax (f.offset + at) why)) same in
-    subst (λ r. Gives feed c.fail.new.self (Err r)) (sym fault) (at, refl, told, new)
+    subst (λ r. Gives texts feed c.fail.new.self (Err r)) (sym fault) (inl ((at, refl, told), new))

@@ -1,7 +1,8 @@
 use Rattle.std.proofs.Common.{◌≡◌, ◌-◌, take, drop, length, Ok, Err, ap, ◌∙◌, sym, subst}
-use Rattle.etf_model.specs.declared.fed.Fed.{Fed}
+use Rattle.feed_model.specs.declared.fed.Fed.{Fed}
 use Rattle.text_model.specs.declared.fault.TextFault.TheVariants.{Syntax}
-use Rattle.text_model.specs.TextFeed.{TextFeed, Gives}
+use Rattle.feed_model.specs.Feed.{Gives}
+use Rattle.text_model.specs.TextFeed.{TextFeed, texts}
 use Rattle.text_model.specs.Progress.{reach}
 use Rattle.term_text.specs.FeedReads.{HasRead}
 use Rattle.term_text.specs.ReaderView.{progress_of}
@@ -20,7 +21,7 @@ answer-requires c =
 
 pub returns-in-Ok-clause-fed : goal.returns-in-Ok-clause-fed
 returns-in-Ok-clause-fed c =
-    subst (λ (f : TextFeed). (fed : Fed) → c.answer.result ≡ Ok fed → Gives f c.answer.new.self (Ok fed)) c.self.view_is c.answer.ensures.fed
+    subst (λ (f : TextFeed). (fed : Fed) → c.answer.result ≡ Ok fed → Gives texts f c.answer.new.self (Ok fed)) c.self.view_is c.answer.ensures.fed
 
 pub returns-in-Ok-clause-syntax : goal.returns-in-Ok-clause-syntax
 returns-in-Ok-clause-syntax c = rw (← c.self.view_is) c.answer.ensures.syntax
