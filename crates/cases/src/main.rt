@@ -28,7 +28,6 @@ mod block;
 mod building;
 mod device;
 mod fault;
-mod feed;
 mod hosts;
 mod line;
 mod lists;

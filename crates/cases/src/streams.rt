@@ -1,12 +1,13 @@
 //! Terms from streams that come in pieces.
 ghost use Rattle.std.specs.Prelude.{◌≡◌, false};
+ghost use Rattle.feed_model.specs.Feed.{empty_feed, total};
 
 use crate::fault::Fault;
-use crate::feed::Feed;
 use crate::line::Line;
 use crate::shown::{join, printed};
 use dets_term::Memory;
-use etf_codec::{Fed, TermFeed};
+use etf_codec::TermFeed;
+use feed_model::{Fed, Feed};
 use std::alloc::Global;
 use std::collections::VecDeque;
 use std::fmt::Write;
@@ -32,8 +33,9 @@ fn fed_in_pieces<F: Feed>(
     mut sizes: VecDeque<u64>,
     bytes: &[u8],
 ) -> Result<String, Fault>
-    requires open { F.is_finished feed ≡ false }
-    requires new { F.fed feed ≡ 0 }
+where
+    Fault: From<F::Fault>,
+    requires { F.shows feed ≡ empty_feed }
 {
     let mut told = Told::new(alloc);
     let mut size = 1;
@@ -43,12 +45,12 @@ fn fed_in_pieces<F: Feed>(
             size = (next as usize).max(1);
         }
         let end = at.saturating_add(size).min(bytes.len());
-        feed.take(&bytes[at..end])?;
+        feed.feed(&bytes[at..end])?;
         at = end;
         told.fed = Some(at);
         take_all(&mut feed, &mut told)?;
     }
-    feed.end();
+    feed.finish();
     told.fed = None;
     take_all(&mut feed, &mut told)?;
     take_all(&mut feed, &mut told)?;
@@ -57,11 +59,14 @@ fn fed_in_pieces<F: Feed>(
 
 /// Tells what a feed answers until it needs more input, is at its end or at fault.
 fn take_all<F: Feed>(feed: &mut F, told: &mut Told) -> Result<(), Fault>
-    ensures fed { F.fed feed.new ≡ F.fed feed.old }
-    ensures finished { F.is_finished feed.new ≡ F.is_finished feed.old }
+where
+    Fault: From<F::Fault>,
+    ensures fed { total (F.shows feed.new) ≡ total (F.shows feed.old) }
+    ensures finished { (F.shows feed.new).finished ≡ (F.shows feed.old).finished }
 {
     for _ in 0..u64::MAX {
-        if !told.hear(feed.answer())? {
+        let answer = feed.next();
+        if !told.hear(answer.map_err(Fault::from))? {
             break;
         }
     }

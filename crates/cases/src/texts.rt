@@ -1,28 +1,18 @@
 //! Terms that are printed on one line.
-ghost use Rattle.std.specs.Prelude.{◌≡◌, false};
 
 use crate::fault::Fault;
-use crate::feed::Feed;
 use dets_term::Term;
-use etf_codec::Fed;
 use std::alloc::Global;
-use term_text::TextFeed;
+use term_text::{Fed, TextFeed};
 
 /// All terms of a text, each with a full stop behind it.
 pub fn terms_of(alloc: Global, text: &[u8]) -> Result<Vec<Term>, Fault> {
-    all_terms(alloc, TextFeed::new(alloc), text)
-}
-
-/// The terms that a new feed answers to these bytes.
-fn all_terms<F: Feed>(alloc: Global, mut feed: F, bytes: &[u8]) -> Result<Vec<Term>, Fault>
-    requires open { F.is_finished feed ≡ false }
-    requires new { F.fed feed ≡ 0 }
-{
-    feed.take(bytes)?;
-    feed.end();
+    let mut feed = TextFeed::new(alloc);
+    feed.feed(text)?;
+    feed.finish();
     let mut terms = Vec::new(alloc);
     for _ in 0..u64::MAX {
-        match feed.answer()? {
+        match feed.next()? {
             Fed::Term(term) => terms.push(term)?,
             _ => break,
         }

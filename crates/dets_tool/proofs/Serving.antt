@@ -1,16 +1,20 @@
 -- How a run goes on, step by step.
 use Rattle.std.proofs.Common.{◌≡◌, ℕ, ◌+◌, Bool, false, List, [], ◌∷◌, ◌++◌, length, length-append, Option, Some, None}
-use Rattle.std.proofs.Common.{option_map, Result, Ok, refl, ap, ◌∙◌, sym, subst}
+use Rattle.std.proofs.Common.{option_map, Result, Ok, Err, inl, inr, refl, ap, ◌∙◌, sym, subst}
 use Rattle.std.proofs.Common.{append_assoc, append-nil, arith}
 use Rattle.std.specs.Option.{option_map_or}
 use Rattle.dets_term.specs.TermValue.{TermValue}
-use Rattle.etf_model.specs.declared.fed.Fed.{Fed}
-use Rattle.etf_model.specs.declared.fed.Fed.TheVariants.{Again, End}
+use Rattle.feed_model.specs.declared.fed.Fed.{Fed}
+use Rattle.feed_model.specs.declared.fed.Fed.TheVariants.{Again, End}
 use Rattle.text_model.specs.declared.fault.TextFault.{TextFault}
+use Rattle.text_model.specs.declared.fault.TextFault.TheVariants.{Syntax, Memory as OutOfMemory}
+use Rattle.text_model.specs.declared.fault.TextWhy.{TextWhy}
 use Rattle.text_model.specs.Sentence.{IsNext}
 use Rattle.text_model.specs.Script.{Placed}
 use Rattle.text_model.specs.ScriptFronts.{AreNext, behind, AreNext-append, behind-append, bytes_of-append}
-use Rattle.text_model.specs.TextFeed.{TextFeed, Gives, gives_behind, IsNextOf}
+use Rattle.feed_model.specs.Meaning.{breaks, no_term}
+use Rattle.feed_model.specs.Feed.{Holds, Gives, gives_behind, IsNext as IsAnswered}
+use Rattle.text_model.specs.TextFeed.{TextFeed, texts}
 use Rattle.text_model.proofs.ScriptFronts.{AreNext-more}
 use Rattle.host_model.specs.Host.{Shown}
 use Rattle.run_model.specs.State.{State}
@@ -147,16 +151,21 @@ pub IsReady-on : (finished then : Bool) (script : Script) → then ≡ finished 
 IsReady-on finished then script e r = subst (λ (f : Bool). IsReady f script) e r
 
 -- what a feed without a fault answers
-pub gives_now : (old new : TextFeed) (answer like : Result Fed TextFault) → old.fault ≡ None → IsNextOf old new answer → answer ≡ like
-    → Gives old new like
+pub gives_now : (old new : TextFeed) (answer like : Result Fed TextFault) → old.fault ≡ None → IsAnswered texts old new answer → answer ≡ like
+    → Gives texts old new like
 gives_now old new answer like e g is =
-    subst (λ (r : Result Fed TextFault). Gives old new r) is (subst (λ (f : Option TextFault). gives_behind f old new answer) e g)
+    subst (λ (r : Result Fed TextFault). Gives texts old new r) is (subst (λ (f : Option TextFault). gives_behind f texts old new answer) e g)
 
 -- where no term is given, what is left waits
-pub waits_on : (old new : TextFeed) → Gives old new (Ok Again) → IsWaiting old.finished new.left
+pub waits_on : (old new : TextFeed) → Gives texts old new (Ok Again) → IsWaiting old.finished new.left
 waits_on old new g =
-    subst (λ (t : TextFeed). IsWaiting old.finished t.left) (sym g.2) (subst (λ (b : Bool). IsWaiting b old.left) (sym g.0) g.1)
+    subst (λ (t : TextFeed). IsWaiting old.finished t.left) (sym g.1) (subst (λ (b : Bool). IsWaiting b old.left) (sym g.0.0) g.0.1)
 
-pub waits_at_end : (old new : TextFeed) → Gives old new (Ok End) → IsWaiting old.finished new.left
+pub waits_at_end : (old new : TextFeed) → Gives texts old new (Ok End) → IsWaiting old.finished new.left
 waits_at_end old new g =
-    subst (λ (t : TextFeed). IsWaiting old.finished t.left) (sym g.2) (subst (λ (b : Bool). IsWaiting b old.left) (sym g.0) g.1)
+    subst (λ (t : TextFeed). IsWaiting old.finished t.left) (sym g.1) (subst (λ (b : Bool). IsWaiting b old.left) (sym g.0.0) g.0.1)
+
+-- a fault that is answered is not want of memory
+pub refused_now : (old new : TextFeed) (at : ℕ) (why : TextWhy) → Gives texts old new (Err (Syntax at why)) → Holds texts old (no_term (breaks (Syntax at why)))
+refused_now old new at why (inl g) = g.0
+refused_now old new at why (inr g) = let clash : Syntax at why ≡ OutOfMemory = g.0 in cc

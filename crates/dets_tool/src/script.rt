@@ -2,7 +2,7 @@
 ghost use Rattle.std.specs.Prelude.{◌≡◌, ◌≢◌, ◌<◌, ◌+◌, ◌^◌, [], length, true, false, Some, None, OnOk, IfOk, IfErr, IsErrOf, ◌⊎◌};
 ghost use Rattle.host_model.specs.Counts.{Rose};
 ghost use Rattle.host_model.specs.Source.{Stream};
-ghost use Rattle.text_model.specs.TextFeed.{total};
+ghost use Rattle.feed_model.specs.Feed.{empty_feed, total};
 ghost use Rattle.run_model.specs.State.{first_state};
 ghost use Rattle.run_model.specs.Step.{after_exit};
 ghost use Rattle.dets_tool.specs.Status.{status_of_pull, status_of_run};
@@ -60,7 +60,7 @@ impl Script {
     ghost use Rattle.dets_tool.specs.Serving.{standing, with_piece, IsReady, Replies, IsUnserved, IsWaiting, ServesOrBreaks, TellsFaults};
 
     fn new(alloc: Global) -> Script
-        ensures text { result.text ≡ record { left = []; offset = 0; finished = false; fault = None } }
+        ensures text { result.text ≡ empty_feed }
         ensures machine { result.machine ≡ record { state = first_state; starved = false } }
         ensures replied { result.replied ≡ 0 }
     {
@@ -78,7 +78,7 @@ impl Script {
         source: &mut S,
         host: &mut H,
     ) -> Result<(), Status>
-        requires text { self.old.text ≡ record { left = []; offset = 0; finished = false; fault = None } }
+        requires text { self.old.text ≡ empty_feed }
         requires machine { self.old.machine ≡ record { state = first_state; starved = false } }
         requires replied { self.old.replied ≡ 0 }
         ensures ran { (stream : Stream) → S.told source.old ≡ Some stream → stream.ended ≡ false

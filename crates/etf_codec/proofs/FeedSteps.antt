@@ -13,7 +13,9 @@ use Rattle.etf_model.specs.Exact.{Between}
 use Rattle.etf_model.specs.Answers.{IsFront, Answers}
 use Rattle.etf_model.specs.Spelling.{spelling, IsPart}
 use Rattle.etf_model.specs.SpellingFeed.{SpellingFeed, longest, front_of, spellings}
-use Rattle.feed_model.specs.Feed.{failed, Holds, Gives, gives_behind, IsNext}
+use Rattle.feed_model.specs.Feed.{total, failed, Holds, Gives, gives_behind, IsNext}
+use Rattle.feed_model.specs.Kept.{next_keeps}
+use Rattle.etf_model.specs.SteadySpellings.{steady-spellings}
 use Rattle.etf_model.specs.SpellingExact.{spelling-exact, spelling_lacks_long}
 use Rattle.etf_codec.specs.declared.term_reader.TermReader.{TermReader}
 use Rattle.etf_codec.specs.declared.feed.TermFeed.TheInside.{Inside}
@@ -171,3 +173,8 @@ gives_short old new answer finished some few part kept same = fails old new Shor
 -- where no fault came yet
 pub gives_first : (old new : SpellingFeed) (answer : Result Fed EtfFault) → old.fault ≡ None → Gives spellings old new answer → IsNext spellings old new answer
 gives_first old new answer none gives = subst (λ fault. gives_behind fault spellings old new answer) (sym none) gives
+
+-- an answer loses no byte, and the input goes on or is finished as before
+pub spellings_keep : (old new : SpellingFeed) (answer : Result Fed EtfFault) → IsNext spellings old new answer
+    → (total new ≡ total old) × (new.finished ≡ old.finished)
+spellings_keep old new answer next = next_keeps spellings steady-spellings old new answer next

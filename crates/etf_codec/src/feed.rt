@@ -171,6 +171,7 @@ impl Feed for TermFeed {
         self.finish();
     }
 
+    #[tactic(auto, using(crate::proofs::FeedSteps::spellings_keep))]
     fn next(&mut self) -> Result<Fed, EtfFault> {
         self.next()
     }

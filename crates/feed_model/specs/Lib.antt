@@ -8,3 +8,4 @@ pub mod Steady
 pub mod OneAnswer
 pub mod Histories
 pub mod FirstTerms
+pub mod Kept

@@ -31,7 +31,9 @@ pub trait Feed: Drop {
     /// The next term of the stream, or that more input is needed, or that there is none. A fault comes again at each later call, but
     /// want of memory changes nothing.
     fn next(&mut self) -> Result<Fed, Self::Fault>
-        ensures { IsNext meaning (shows self.old) (shows self.new) result };
+        ensures next { IsNext meaning (shows self.old) (shows self.new) result }
+        ensures keeps { (total (shows self.new) ≡ total (shows self.old)) × ((shows self.new).finished ≡ (shows self.old).finished) };
 
+    /// What the bytes mean is steady.
     ghost steady: { Steady meaning };
 }

@@ -2,7 +2,8 @@ use Rattle.std.proofs.Common.{◌≡◌, ◌≢◌, ℕ, ◌^◌, false, List, l
 use Rattle.std.proofs.lemmas.Result.{err_from_is_err_and}
 use Rattle.host_model.specs.Source.{Stream}
 use Rattle.text_model.specs.Script.{blank, no_term, IsAnswer}
-use Rattle.text_model.specs.TextFeed.{TextFeed, total}
+use Rattle.feed_model.specs.Feed.{total}
+use Rattle.text_model.specs.TextFeed.{TextFeed}
 use Rattle.text_model.proofs.ScriptFronts.{nothing_fed}
 use Rattle.dets_machine.specs.MachineValue.{MachineValue}
 use Rattle.dets_tool.specs.InputFeed.{InputFeedValue, Pulled}

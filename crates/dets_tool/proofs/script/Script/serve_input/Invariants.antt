@@ -1,6 +1,6 @@
 use Rattle.std.proofs.Common.{◌≡◌, ◌≤◌, ◌+◌, ◌^◌, false, Some}
 use Rattle.host_model.specs.Source.{Stream}
-use Rattle.text_model.specs.TextFeed.{total}
+use Rattle.feed_model.specs.Feed.{total}
 use Rattle.dets_tool.specs.declared.input_feed.InputState.TheVariants.{Reading}
 use Rattle.dets_tool.specs.Serving.{standing, IsWaiting, IsReady}
 use Rattle.dets_tool.proofs.InputRuns.{HasTaken}

@@ -1,14 +1,14 @@
 use Rattle.std.proofs.Common.{ℕ, Ok, Err, length, refl, ap, ◌∙◌, sym, subst, arith}
 use Rattle.std.proofs.lemmas.List.{length-drop}
 use Rattle.std.proofs.lemmas.Result.{err_from_is_err_and}
-use Rattle.etf_model.specs.declared.fed.Fed.TheVariants.{Term, Again, End}
+use Rattle.feed_model.specs.declared.fed.Fed.TheVariants.{Term, Again, End}
 use Rattle.text_model.specs.declared.fault.TextFault.TheVariants.{Syntax}
 use Rattle.text_model.specs.TextFeed.{TextFeed}
 use Rattle.text_model.proofs.TermLengths.{term_some, term_within}
 use Rattle.dets_tool.specs.declared.status.InputWhy.TheVariants.{Text}
 use Rattle.dets_tool.specs.declared.status.Status.TheVariants.{Input}
 use Rattle.dets_tool.specs.Serving.{standing, Stops, at_command, at_text, at_memory}
-use Rattle.dets_tool.proofs.Serving.{Serves-none, Serves-same, Serves-one, IsUnserved-left, IsReady-same, gives_now, waits_on, waits_at_end}
+use Rattle.dets_tool.proofs.Serving.{Serves-none, Serves-same, Serves-one, IsUnserved-left, IsReady-same, gives_now, waits_on, waits_at_end, refused_now}
 use Rattle.dets_tool.proofs.script.Script.serve_next.Goals as goal
 
 pub returns-in_err-serve-in-Ok-Term-clause-served : goal.returns-in_err-serve-in-Ok-Term-clause-served
@@ -66,6 +66,7 @@ pub returns-in-Err-Syntax-clause-served : goal.returns-in-Err-Syntax-clause-serv
 returns-in-Err-Syntax-clause-served g c =
     let given = gives_now c.args.self.now.text c.next.new.self _ (Err (Syntax c.in-Err-Syntax.at c.in-Err-Syntax.why))
     c.requires.ready.no_fault c.next.ensures.next (c.in-Err-Syntax.is ∙ ap Err c.in-Err-Syntax.field-0-is) in
+    let fault = refused_now _ _ _ _ given in
     record {
       served = tt;
       ready = tt;
@@ -75,7 +76,7 @@ returns-in-Err-Syntax-clause-served g c =
         stops =
             subst
             (λ (at : ℕ). Stops c.args.self.now.text.finished (standing c.args.self.now (g.H.Host.shows c.args.host.now)) (g.H.Host.shows c.args.host.now).said
-            (Input at (Text c.in-Err-Syntax.why))) (sym given.1) (at_text given.0 c.in-Err-Syntax.why given.2 refl);
+            (Input at (Text c.in-Err-Syntax.why))) (sym fault.1) (at_text fault.0 c.in-Err-Syntax.why fault.2 refl);
       };
     }
 
@@ -88,8 +89,8 @@ returns-in-Ok-Again-clause-served g c =
     let given = gives_now c.args.self.now.text c.next.new.self _ (Ok Again) c.requires.ready.no_fault c.next.ensures.next
     (c.in-Ok-Again.is ∙ ap Ok c.in-Ok-Again.field-0-is) in
     record {
-      served = Serves-same _ _ c.args.self.now (g.H.Host.shows c.args.host.now) given.2;
-      ready = IsReady-same _ _ _ given.2 c.requires.ready;
+      served = Serves-same _ _ c.args.self.now (g.H.Host.shows c.args.host.now) given.1;
+      ready = IsReady-same _ _ _ given.1 c.requires.ready;
       breaks = tt;
     }
 
@@ -104,8 +105,8 @@ returns-in-Ok-End-clause-served g c =
     let given = gives_now c.args.self.now.text c.next.new.self _ (Ok End) c.requires.ready.no_fault c.next.ensures.next
     (c.in-Ok-End.is ∙ ap Ok c.in-Ok-End.field-0-is) in
     record {
-      served = Serves-same _ _ c.args.self.now (g.H.Host.shows c.args.host.now) given.2;
-      ready = IsReady-same _ _ _ given.2 c.requires.ready;
+      served = Serves-same _ _ c.args.self.now (g.H.Host.shows c.args.host.now) given.1;
+      ready = IsReady-same _ _ _ given.1 c.requires.ready;
       breaks = tt;
     }
 

@@ -1,5 +1,5 @@
 use Rattle.std.proofs.Common.{◌≡◌, ◌≤◌, length}
-use Rattle.text_model.specs.TextFeed.{total}
+use Rattle.feed_model.specs.Feed.{total}
 use Rattle.dets_tool.specs.Serving.{standing, Serves, IsReady}
 use Rattle.dets_tool.proofs.script.Script.serve_whole.Given as goal
 
