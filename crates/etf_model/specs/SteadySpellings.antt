@@ -167,18 +167,19 @@ pub term_stays : (left more : List ℕ) (t : TermValue) (count : ℕ) → IsFron
     → IsFront spelling (take longest (left ++ more)) t count
 term_stays left more t count front = front_grows (λ bytes. IsFront spelling bytes t count) (term_grows t count) left more front
 
-stays : (finished : Bool) (start : ℕ) (bytes more : List ℕ) (x : InFront EtfFault) → x ≢ no_term goes_on → (finished ≡ true → more ≡ [])
-    → stands finished start bytes x → stands true start (bytes ++ more) x
-stays finished start bytes more (a_term t count) other last front = term_stays bytes more t count front
-stays finished start bytes more (no_term goes_on) other last h = absurd (other refl)
-stays finished start bytes more (no_term ends) other last (f, none) = (refl, ap₂ (λ xs ys. xs ++ ys) none (last f))
-stays finished start bytes more (no_term (breaks Short)) other last (f, some, few, p) =
-    subst (λ l. stands true start l (no_term (breaks Short))) (sym (append-nil bytes) ∙ ap (λ l. bytes ++ l) (sym (last f))) (refl, some, few, p)
-stays finished start bytes more (no_term (breaks (LongTerm at))) other last (here, long, p) =
+stays : (finished then : Bool) (start : ℕ) (bytes more : List ℕ) (x : InFront EtfFault) → x ≢ no_term goes_on
+    → (finished ≡ true → (then ≡ true) × (more ≡ [])) → stands finished start bytes x → stands then start (bytes ++ more) x
+stays finished then start bytes more (a_term t count) other last front = term_stays bytes more t count front
+stays finished then start bytes more (no_term goes_on) other last h = absurd (other refl)
+stays finished then start bytes more (no_term ends) other last (f, none) = ((last f).0, ap₂ (λ xs ys. xs ++ ys) none (last f).1)
+stays finished then start bytes more (no_term (breaks Short)) other last (f, some, few, p) =
+    subst (λ l. stands then start l (no_term (breaks Short))) (sym (append-nil bytes) ∙ ap (λ l. bytes ++ l) (sym (last f).1))
+    ((last f).0, some, few, p)
+stays finished then start bytes more (no_term (breaks (LongTerm at))) other last (here, long, p) =
     let same : take longest (bytes ++ more) ≡ take longest bytes = take-append-le longest bytes more long in
     (here, omega (arith, long, length-append bytes more), subst IsPart (sym same) p)
-stays finished start bytes more (no_term (breaks Memory)) other last h = absurd h
-stays finished start bytes more (no_term (breaks fault)) other last b =
+stays finished then start bytes more (no_term (breaks Memory)) other last h = absurd h
+stays finished then start bytes more (no_term (breaks fault)) other last b =
     let Breaks = λ (l : List ℕ). Begins (λ front. IsBreak start front fault) l in
     front_grows Breaks (begins_grows (λ front. IsBreak start front fault)) bytes more b
 
@@ -201,5 +202,6 @@ steady-spellings = record {
   stays = stays;
   within = λ finished start bytes t count front. within bytes t count front;
   closed = λ start bytes h. let clash = h.0 in cc;
+  open_end = λ start bytes h. let clash = h.0 in cc;
   no_memory = λ finished start bytes h. h;
 }

@@ -39,7 +39,8 @@ module _ {F : Type 0} (m : Meaning F) (steady : Steady m) (behind : Behind F) wh
   behind_term calls first s t count front rest ts h done all given =
       let more = fed_bytes calls ++ rest in
       by_terms ts given
-      (steady.stays s.finished s.offset s.left more (a_term t count) (λ e. cc) (nothing_more m calls (passed s count) rest h done) front)
+      (steady.stays s.finished true s.offset s.left more (a_term t count) (λ e. cc)
+      (λ f. (refl, nothing_more m calls (passed s count) rest h done f)) front)
     where
       by_terms : (ts : List TermValue) → IsStream m true s.offset (s.left ++ (fed_bytes calls ++ rest)) ts behind
           → m.Stands true s.offset (s.left ++ (fed_bytes calls ++ rest)) (a_term t count) → AreFirst (t ∷ answered_terms calls) ts

@@ -96,7 +96,7 @@ module _ {F : Type 0} (m : Meaning F) (steady : Steady m) (behind : Behind F) (l
   gives_last : (s new : Feed F) → (s.finished ≡ true → rest ≡ []) → Gives m s new (answer_to behind) → GivesOf s (closing [])
   gives_last s new done h =
       subst (λ ts. IsStream m true s.offset (s.left ++ rest) ts behind) (sym (without_term behind))
-      (steady.stays s.finished s.offset s.left rest (no_term behind) (is_settled behind last) done (holds_last s new behind last h))
+      (steady.stays s.finished true s.offset s.left rest (no_term behind) (is_settled behind last) (λ f. (refl, done f)) (holds_last s new behind last h))
 
   gives_piece : (calls : List (Call F)) (s : Feed F) (piece : List ℕ) → GivesOf (with_piece s piece) calls → GivesOf s (Piece piece ∷ calls)
   gives_piece calls s piece h =
@@ -110,7 +110,8 @@ module _ {F : Type 0} (m : Meaning F) (steady : Steady m) (behind : Behind F) (l
       let more = fed_bytes calls ++ rest in
       let same = drop-append-le count s.left more (steady.within s.finished s.offset s.left t count front).1 in (
         count,
-        steady.stays s.finished s.offset s.left more (a_term t count) (λ e. cc) (nothing_more m calls (passed s count) rest on done) front,
+        steady.stays s.finished true s.offset s.left more (a_term t count) (λ e. cc)
+            (λ f. (refl, nothing_more m calls (passed s count) rest on done f)) front,
         subst (λ bytes. IsStream m true (s.offset + count) bytes (answered_terms calls) behind) (sym same) h,
       )
 
@@ -124,8 +125,8 @@ module _ {F : Type 0} (m : Meaning F) (steady : Steady m) (behind : Behind F) (l
   gives_fault before s fault done is h =
       let calls = closing before in
       let more = fed_bytes calls ++ rest in
-      let stays = steady.stays s.finished s.offset s.left more (no_term (breaks fault)) (λ e. cc)
-          (nothing_more m calls (failed s fault) rest h done) is in
+      let stays = steady.stays s.finished true s.offset s.left more (no_term (breaks fault)) (λ e. cc)
+          (λ f. (refl, nothing_more m calls (failed s fault) rest h done f)) is in
       let on = behind_fault m before (answer_to behind) (failed s fault) fault refl h in
       subst (λ ts. IsStream m true s.offset (s.left ++ more) ts behind) (sym on.0)
       (subst (λ x. m.Stands true s.offset (s.left ++ more) (no_term x)) (sym (answers_to_breaks behind fault on.1)) stays)

@@ -8,4 +8,5 @@ pub mod Steady
 pub mod OneAnswer
 pub mod Histories
 pub mod FirstTerms
+pub mod Growth
 pub mod Kept

@@ -48,22 +48,23 @@ something finished start bytes (no_sentence (fault at why)) is = (no_term (break
 -- ---- it stays
 
 -- what stays with more bytes stays with all that follow, which are none where the input is finished
-stays_on : (finished : Bool) (bytes more : List ℕ) (answer : Answer) → (finished ≡ true → more ≡ [])
-    → (IsAnswer false bytes answer → IsAnswer true (bytes ++ more) answer) → IsAnswer finished bytes answer → IsAnswer true (bytes ++ more) answer
-stays_on true bytes more answer last on is =
-    subst (λ l. IsAnswer true l answer) (sym (append-nil bytes) ∙ ap (λ l. bytes ++ l) (sym (last refl))) is
-stays_on false bytes more answer last on is = on is
+stays_on : (finished then : Bool) (bytes more : List ℕ) (answer : Answer) → (finished ≡ true → (then ≡ true) × (more ≡ []))
+    → (IsAnswer false bytes answer → IsAnswer then (bytes ++ more) answer) → IsAnswer finished bytes answer → IsAnswer then (bytes ++ more) answer
+stays_on true then bytes more answer last on is =
+    subst (λ b. IsAnswer b (bytes ++ more) answer) (sym (last refl).0)
+    (subst (λ l. IsAnswer true l answer) (sym (append-nil bytes) ∙ ap (λ l. bytes ++ l) (sym (last refl).1)) is)
+stays_on false then bytes more answer last on is = on is
 
-stays : (finished : Bool) (start : ℕ) (bytes more : List ℕ) (x : InFront TextFault) → x ≢ no_term goes_on → (finished ≡ true → more ≡ [])
-    → stands finished start bytes x → stands true start (bytes ++ more) x
-stays finished start bytes more (a_term t count) other last is =
-    stays_on finished bytes more (a_sentence t count) last (term_stays true bytes more t count) is
-stays finished start bytes more (no_term goes_on) other last h = absurd (other refl)
-stays finished start bytes more (no_term ends) other last (f, is) =
-    (refl, subst (λ l. IsAnswer true l (no_sentence blank)) (sym (append-nil bytes) ∙ ap (λ l. bytes ++ l) (sym (last f))) is)
-stays finished start bytes more (no_term (breaks (Syntax at why))) other last (offset, there, is) =
-    (offset, there, stays_on finished bytes more (no_sentence (fault offset why)) last (fault_stays true bytes more offset why) is)
-stays finished start bytes more (no_term (breaks Memory)) other last h = absurd h
+stays : (finished then : Bool) (start : ℕ) (bytes more : List ℕ) (x : InFront TextFault) → x ≢ no_term goes_on
+    → (finished ≡ true → (then ≡ true) × (more ≡ [])) → stands finished start bytes x → stands then start (bytes ++ more) x
+stays finished then start bytes more (a_term t count) other last is =
+    stays_on finished then bytes more (a_sentence t count) last (term_stays then bytes more t count) is
+stays finished then start bytes more (no_term goes_on) other last h = absurd (other refl)
+stays finished then start bytes more (no_term ends) other last (f, is) =
+    ((last f).0, subst (λ l. IsAnswer true l (no_sentence blank)) (sym (append-nil bytes) ∙ ap (λ l. bytes ++ l) (sym (last f).1)) is)
+stays finished then start bytes more (no_term (breaks (Syntax at why))) other last (offset, there, is) =
+    (offset, there, stays_on finished then bytes more (no_sentence (fault offset why)) last (fault_stays then bytes more offset why) is)
+stays finished then start bytes more (no_term (breaks Memory)) other last h = absurd h
 
 pub steady-texts : Steady texts
 steady-texts = record {
@@ -72,5 +73,6 @@ steady-texts = record {
   stays = stays;
   within = λ finished start bytes t count is. (term_some finished bytes t count is, term_within finished bytes t count is);
   closed = λ start bytes h. let clash = h.0 in cc;
+  open_end = λ start bytes h. let clash = h.0 in cc;
   no_memory = λ finished start bytes h. h;
 }
