@@ -1,10 +1,10 @@
 -- The first bytes of a character are three at the most.
-use Rattle.std.proofs.Common.{◌≡◌, ℕ, ◌≤◌, Bool, true, false, cond, ◌&&◌, nat_lt, List, [], ◌∷◌, length, Option, Some, None, slice_index, ap, refl, arith}
-use Rattle.std.specs.Prelude.{◌==◌}
+use Rattle.std.proofs.Common.{◌≡◌, ℕ, ◌≤◌, List, [], ◌∷◌, length, Some, None, slice_index, ap, arith}
 use Rattle.std.proofs.lemmas.Bool.{and_parts, eqb-true}
-use Rattle.bstr.specs.Utf8.{Decoded, bad, good, decoded, decoded_by, lead_len}
+use Rattle.bstr.specs.Utf8.{Decoded, bad, good, decoded, decoded_by}
 use Rattle.bstr.proofs.lemmas.PieceLemmas.{by-shape}
-use Rattle.text_model.specs.Reader.{part, wrong, sequence, sequence_by}
+use Rattle.text_model.specs.Reader.{part, sequence}
+use Rattle.text_model.proofs.CutCharacters.{part_by}
 
 short : (d : Decoded) (k : ℕ) → k ≤ 3 → d ≡ bad k → d.size ≤ 3
 short d k few e = let size : d.size ≡ k = ap (λ (p : Decoded). p.size) e in omega arith
@@ -28,15 +28,6 @@ small n b c d e none = by-shape n b c d e
     (λ h. short _ 3 (omega arith) h.6)
     (λ h. short _ 3 (omega arith) h.6)
     (λ h. none_short _ _ 4 none h.6)
-
-part_tests : (b : Bool) → cond b part wrong ≡ part → b ≡ true
-part_tests true e = refl
-part_tests false e = cc
-
-part_by : (x : ℕ) (xs : List ℕ) (size : ℕ) (char : Option ℕ) → sequence_by (x ∷ xs) size char ≡ part
-    → (char ≡ None) × ((size == length (x ∷ xs)) && nat_lt 1 (lead_len x) ≡ true)
-part_by x xs size (Some c) e = cc
-part_by x xs size None e = (refl, part_tests _ e)
 
 pub part_is_short : (bytes : List ℕ) → sequence bytes ≡ part → length bytes ≤ 3
 part_is_short [] e = cc

@@ -92,7 +92,7 @@ part_tests : (b : Bool) → cond b part wrong ≡ part → b ≡ true
 part_tests true e = refl
 part_tests false e = cc
 
-part_by : (x : ℕ) (xs : List ℕ) (size : ℕ) (char : Option ℕ) → sequence_by (x ∷ xs) size char ≡ part
+pub part_by : (x : ℕ) (xs : List ℕ) (size : ℕ) (char : Option ℕ) → sequence_by (x ∷ xs) size char ≡ part
     → (char ≡ None) × ((size == length (x ∷ xs)) && nat_lt 1 (lead_len x) ≡ true)
 part_by x xs size (Some c) e = cc
 part_by x xs size None e = (refl, part_tests _ e)
