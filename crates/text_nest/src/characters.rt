@@ -8,6 +8,7 @@ use std::alloc::Global;
 #[derive(Drop)]
 pub struct Characters {
     pub text: Text,
+    /// How many there are.
     pub count: u64,
     ghost counted: { count ≡ length text },
 }
@@ -23,7 +24,7 @@ impl Characters {
         }
     }
 
-    /// Puts a character last.
+    /// Puts a character last. After `Memory` nothing is said of them.
     pub fn push(&mut self, character: char) -> Result<(), Memory>
         requires { self.old.count < 2 ^ 63 }
         ensures { OnOk result (self.new.text ≡ self.old.text ++ character ∷ []) }

@@ -5,14 +5,16 @@ ghost use Rattle.text_model.specs.Reader.{digit};
 /// The digits of an integer so far, by their value.
 #[derive(Clone, Copy, Drop)]
 pub struct Integer {
+    /// With the sign.
     pub value: i128,
+    /// Whether a minus sign stands in front of the digits, of 0 too.
     pub is_negative: bool,
     ghost below: { is_negative ≡ true → value ≤ℤ pos 0 },
     ghost above: { is_negative ≡ false → pos 0 ≤ℤ value },
 }
 
 impl Integer {
-    /// The integer of a first digit, behind a minus sign or not.
+    /// The integer of a first digit, an ASCII byte, behind a minus sign or not.
     pub fn new(is_negative: bool, byte: u8) -> Integer
         requires { (48 ≤ byte) × (byte < 58) }
         ensures sign { result.is_negative ≡ is_negative }
@@ -23,7 +25,7 @@ impl Integer {
         Integer { value, is_negative }
     }
 
-    /// The integer with one more digit, or `None` where 128 bits do not hold it.
+    /// The integer with one more digit, an ASCII byte; `None` where it is not within the range of `i128`.
     pub fn with_digit(self, byte: u8) -> Option<Integer>
         requires { (48 ≤ byte) × (byte < 58) }
         ensures sign { IfSome result (λ next. next.is_negative ≡ self.is_negative) }

@@ -81,6 +81,9 @@ pub(crate) enum NestPlace {
 }
 
 /// The terms that are open, outermost first, and where the next token stands.
+///
+/// It takes the tokens of one text in order, each with its offset in bytes, from wherever the caller counts. After an error nothing
+/// is said of it.
 #[derive(Drop)]
 pub struct Nest {
     begun: Vec<Start>,
@@ -121,7 +124,7 @@ impl Nest {
         self.wants() && self.at_segment()
     }
 
-    /// Why no term may begin here.
+    /// Why no term may begin here, as `BadToken` or `Depth`; `None` where one may.
     pub fn refusal(&self) -> Option<TextWhy>
         ensures { result ≡ refusal strict (nest_of self.now) }
     {
@@ -134,7 +137,7 @@ impl Nest {
         }
     }
 
-    /// Why no number may stand here, whatever its value is.
+    /// Why no number may stand here, whatever its value is; `None` where some number may.
     pub fn number_refusal(&self) -> Option<TextWhy>
         ensures { result ≡ refusal_of strict (nest_of self.now) a_number }
     {
@@ -145,7 +148,7 @@ impl Nest {
         }
     }
 
-    /// Why no string may stand here, whatever its characters are.
+    /// Why no string may stand here, whatever its characters are; `None` where some string may.
     pub fn string_refusal(&self) -> Option<TextWhy>
         ensures { result ≡ refusal_of strict (nest_of self.now) a_string }
     {
@@ -156,7 +159,7 @@ impl Nest {
         }
     }
 
-    /// Whether a string that begins here may have characters.
+    /// Whether a string that begins here may have characters: as a term it has one level with none, and two with some.
     pub fn may_hold(&self) -> bool
         ensures { result ≡ may_hold strict (nest_of self.now) }
     {
@@ -368,7 +371,8 @@ impl Nest {
         }
     }
 
-    /// Takes a punctuation mark that begins at an offset.
+    /// Takes a punctuation mark that begins at an offset. `Syntax` says at which offset and why it may not stand there, `Memory`
+    /// that there is no room.
     pub fn take_mark(&mut self, alloc: Global, at: u64, mark: Mark) -> Result<(), TextFault>
         requires { IsFit (2 ^ 24) (nest_of self.old) }
         ensures ok { OnOk result (take strict (nest_of self.old) at (mark_token mark) ≡ Ok (nest_of self.new)) }
@@ -390,7 +394,8 @@ impl Nest {
         }
     }
 
-    /// Takes a number.
+    /// Takes a number that begins at an offset. `Syntax` says at which offset and why it may not stand there, `Memory` that there is
+    /// no room.
     pub fn take_number(&mut self, at: u64, value: i128) -> Result<(), TextFault>
         ensures ok { OnOk result (take strict (nest_of self.old) at (number value) ≡ Ok (nest_of self.new)) }
         ensures syntax { (o : ℕ) (why : TextWhy) → result ≡ Err (Syntax o why) → take strict (nest_of self.old) at (number value) ≡ Err (o, why) }
@@ -433,7 +438,8 @@ impl Nest {
         }
     }
 
-    /// Takes an atom.
+    /// Takes an atom that begins at an offset, by its characters. `Syntax` says at which offset and why it may not stand there,
+    /// `Memory` that there is no room.
     pub fn take_atom(&mut self, at: u64, name: Text) -> Result<(), TextFault>
         requires { length name ≤ 255 }
         ensures ok { OnOk result (leaf strict (nest_of self.old) at (atom name) (refusal strict (nest_of self.old)) ≡ Ok (nest_of self.new)) }
@@ -444,7 +450,8 @@ impl Nest {
         self.leaf(at, term)
     }
 
-    /// Takes a string of so many characters.
+    /// Takes a string of so many characters that begins at an offset. `Syntax` says at which offset and why it may not stand there,
+    /// `Memory` that there is no room.
     pub fn take_string(
         &mut self,
         alloc: Global,
@@ -557,7 +564,7 @@ impl Nest {
         self.begun.is_empty() && matches!(self.place, NestPlace::Want)
     }
 
-    /// The term whose full stop was the last token.
+    /// The term whose full stop was the last token; `None` where that was another token, or there was none.
     pub fn into_term(self) -> Option<Term>
         ensures some { (t : TermValue) → result ≡ Some t → (nest_of self).place ≡ stopped t }
         ensures none { result ≡ None → is_stopped (nest_of self).place ≡ false }
@@ -569,7 +576,8 @@ impl Nest {
         }
     }
 
-    /// The fault of a number that the end of the input ends.
+    /// The fault of a number that the end of the input ends, and that began at an offset: `None` where it may go on or may stand
+    /// there, `Some` with the offset and the reason where no continuation is without fault. The only error is `Memory`.
     pub fn last_number(
         self,
         start: u64,
@@ -604,7 +612,7 @@ impl Nest {
         }
     }
 
-    /// The fault of an atom without quotes that the end of the input ends.
+    /// The same of an atom without quotes.
     pub fn last_name(
         self,
         start: u64,
