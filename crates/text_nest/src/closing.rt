@@ -5,7 +5,7 @@ ghost use Rattle.dets_term.specs.BitString.{byte_bits, bits_of, MayUse};
 ghost use Rattle.dets_term.specs.IsTerm.{AreAscending};
 ghost use Rattle.dets_term.specs.Pairs.{keys, placed};
 ghost use Rattle.dets_term.specs.Parts.{deepest, deepest_of_pairs};
-ghost use Rattle.text_model.specs.Nest.{in_tuple, in_list, in_tail, in_map, in_value, in_bits, last_part, brace_term, list_term, bits_term};
+ghost use Rattle.text_model.specs.Nest.{in_value, in_bits, last_part, brace_term, list_term, bits_term};
 ghost use Rattle.text_nest.specs.NestView.{frame_of, place_of};
 ghost use Rattle.text_nest.specs.Fits.{FrameFits, PartFits, LastFits, PairsFit, PartsFit};
 
@@ -14,39 +14,33 @@ use crate::nest::{NestPlace, Open};
 use dets_term::{ByteList, MapPairs, Term, TermList, within_limits};
 use std::alloc::Global;
 
-/// The part in front of a closing mark, which may be none behind an opening one; `None` where no mark may close.
-pub(crate) fn last_part(place: NestPlace) -> Option<Option<Term>>
-    ensures { result ≡ last_part (place_of place) }
-{
-    match place {
-        NestPlace::Opened => Some(None),
-        NestPlace::After(_, term) => Some(Some(term)),
-        NestPlace::Want => None,
-        NestPlace::Number(_, _) => None,
-        NestPlace::Colon(_, _) => None,
-        NestPlace::Segment => None,
-        NestPlace::Sized(_) => None,
-        NestPlace::Stopped(_) => None,
-    }
-}
-
 /// The tuple or the map that a brace closes.
 pub(crate) fn brace_term(
     alloc: Global,
     begun: Open,
-    part: Option<Option<Term>>,
+    place: NestPlace,
 ) -> Result<Option<Term>, Memory>
     requires begun { FrameFits (frame_of begun) }
-    requires part { LastFits part }
-    ensures { IfOk result (λ term. term ≡ brace_term (frame_of begun) part) }
+    requires part { LastFits (last_part (place_of place)) }
+    ensures { IfOk result (λ term. term ≡ brace_term (frame_of begun) (last_part (place_of place))) }
 {
     match begun {
-        Open::Tuple(parts) => closed_tuple(parts, part),
-        Open::Pairs(pairs) => closed_map(alloc, pairs, part),
-        Open::Value(pairs, key) => closed_value(alloc, pairs, key, part),
-        Open::Elements(_) => Ok(None),
-        Open::Tail(_) => Ok(None),
-        Open::Bits(_) => Ok(None),
+        Open::Tuple(parts) => match place {
+            NestPlace::Opened => Ok(Some(tuple_of(parts)?)),
+            NestPlace::After(_, part) => Ok(Some(tuple_with(parts, part)?)),
+            _ => Ok(None),
+        },
+        Open::Map(pairs, key) => match key {
+            None => match place {
+                NestPlace::Opened => Ok(Some(map_of(alloc, pairs)?)),
+                _ => Ok(None),
+            },
+            Some(key) => match place {
+                NestPlace::After(_, value) => Ok(Some(map_with(alloc, pairs, key, value)?)),
+                _ => Ok(None),
+            },
+        },
+        _ => Ok(None),
     }
 }
 
@@ -54,19 +48,23 @@ pub(crate) fn brace_term(
 pub(crate) fn list_term(
     alloc: Global,
     begun: Open,
-    part: Option<Option<Term>>,
+    place: NestPlace,
 ) -> Result<Option<Term>, Memory>
     requires begun { FrameFits (frame_of begun) }
-    requires part { LastFits part }
-    ensures { IfOk result (λ term. term ≡ list_term (frame_of begun) part) }
+    requires part { LastFits (last_part (place_of place)) }
+    ensures { IfOk result (λ term. term ≡ list_term (frame_of begun) (last_part (place_of place))) }
 {
     match begun {
-        Open::Elements(parts) => closed_elements(alloc, parts, part),
-        Open::Tail(parts) => closed_tail(alloc, parts, part),
-        Open::Tuple(_) => Ok(None),
-        Open::Pairs(_) => Ok(None),
-        Open::Value(_, _) => Ok(None),
-        Open::Bits(_) => Ok(None),
+        Open::List(parts, false) => match place {
+            NestPlace::Opened => Ok(Some(list_of(TermList::new(alloc))?)),
+            NestPlace::After(_, part) => Ok(Some(list_with(parts, part)?)),
+            _ => Ok(None),
+        },
+        Open::List(parts, true) => match place {
+            NestPlace::After(_, tail) => Ok(Some(joined(alloc, parts, tail)?)),
+            _ => Ok(None),
+        },
+        _ => Ok(None),
     }
 }
 
@@ -77,87 +75,7 @@ pub(crate) fn bits_term(begun: Open, place: NestPlace) -> Result<Option<Term>, M
 {
     match begun {
         Open::Bits(bytes) => closed_bits(bytes, place),
-        Open::Tuple(_) => Ok(None),
-        Open::Elements(_) => Ok(None),
-        Open::Tail(_) => Ok(None),
-        Open::Pairs(_) => Ok(None),
-        Open::Value(_, _) => Ok(None),
-    }
-}
-
-fn closed_tuple(parts: TermList, part: Option<Option<Term>>) -> Result<Option<Term>, Memory>
-    requires parts { FrameFits (in_tuple parts) }
-    requires part { LastFits part }
-    ensures { IfOk result (λ term. term ≡ brace_term (in_tuple parts) part) }
-{
-    match part {
-        None => Ok(None),
-        Some(None) => Ok(Some(tuple_of(parts)?)),
-        Some(Some(part)) => Ok(Some(tuple_with(parts, part)?)),
-    }
-}
-
-fn closed_map(
-    alloc: Global,
-    pairs: MapPairs,
-    part: Option<Option<Term>>,
-) -> Result<Option<Term>, Memory>
-    requires { FrameFits (in_map pairs) }
-    ensures { IfOk result (λ term. term ≡ brace_term (in_map pairs) part) }
-{
-    match part {
-        Some(None) => Ok(Some(map_of(alloc, pairs)?)),
-        None => Ok(None),
-        Some(Some(_)) => Ok(None),
-    }
-}
-
-fn closed_value(
-    alloc: Global,
-    pairs: MapPairs,
-    key: Term,
-    part: Option<Option<Term>>,
-) -> Result<Option<Term>, Memory>
-    requires pairs { FrameFits (in_value pairs key) }
-    requires part { LastFits part }
-    ensures { IfOk result (λ term. term ≡ brace_term (in_value pairs key) part) }
-{
-    match part {
-        Some(Some(value)) => Ok(Some(map_with(alloc, pairs, key, value)?)),
-        None => Ok(None),
-        Some(None) => Ok(None),
-    }
-}
-
-fn closed_elements(
-    alloc: Global,
-    parts: TermList,
-    part: Option<Option<Term>>,
-) -> Result<Option<Term>, Memory>
-    requires parts { FrameFits (in_list parts) }
-    requires part { LastFits part }
-    ensures { IfOk result (λ term. term ≡ list_term (in_list parts) part) }
-{
-    match part {
-        None => Ok(None),
-        Some(None) => Ok(Some(list_of(TermList::new(alloc))?)),
-        Some(Some(part)) => Ok(Some(list_with(parts, part)?)),
-    }
-}
-
-fn closed_tail(
-    alloc: Global,
-    parts: TermList,
-    part: Option<Option<Term>>,
-) -> Result<Option<Term>, Memory>
-    requires parts { FrameFits (in_tail parts) }
-    requires part { LastFits part }
-    ensures { IfOk result (λ term. term ≡ list_term (in_tail parts) part) }
-{
-    match part {
-        Some(Some(tail)) => Ok(Some(joined(alloc, parts, tail)?)),
-        None => Ok(None),
-        Some(None) => Ok(None),
+        _ => Ok(None),
     }
 }
 

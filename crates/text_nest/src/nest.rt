@@ -17,11 +17,10 @@ ghost use Rattle.text_nest.specs.Strays.{is_stray, ends_segments, is_after, at_k
 ghost use Rattle.text_model.specs.Reader.{double, why_of, is_want, in_number, in_name, number_may_grow, last_fault};
 ghost use Rattle.text_model.specs.declared.fault.TextFault.TheVariants.{Syntax};
 ghost use Rattle.text_model.specs.declared.fault.TextWhy.{TextWhy};
-ghost use Rattle.text_nest.specs.NestView.{frame_of, place_of, begun_terms, nest_of};
+ghost use Rattle.text_nest.specs.NestView.{frame_of, place_of, begun_terms, nest_of, divided};
 
-use crate::changing::{after_arrow, after_bar, after_comma};
 use crate::characters::Characters;
-use crate::closing::{bits_term, brace_term, last_part, list_term};
+use crate::closing::{bits_term, brace_term, list_term};
 use crate::integer::Integer;
 use crate::segments::{LastBits, byte_of};
 use crate::strings::{bytes_with_all, code_points};
@@ -40,14 +39,10 @@ pub const MAX_CHARACTERS: u64 = 255;
 #[derive(Drop)]
 pub(crate) enum Open {
     Tuple(TermList),
-    /// The elements of a list.
-    Elements(TermList),
-    /// The elements of a list, in front of its tail.
-    Tail(TermList),
-    /// The pairs of a map.
-    Pairs(MapPairs),
+    /// The elements of a list, and whether its bar is behind them.
+    List(TermList, bool),
     /// The pairs of a map, and a key in front of its value.
-    Value(MapPairs, Term),
+    Map(MapPairs, Option<Term>),
     /// A bit string by the bytes of its segments.
     Bits(ByteList),
 }
@@ -185,21 +180,9 @@ impl Nest {
         match self.begun.last() {
             None => false,
             Some(innermost) => match &innermost.term {
-                Open::Pairs(pairs) => pairs.has_key(term),
+                Open::Map(pairs, None) => pairs.has_key(term),
                 _ => false,
             },
-        }
-    }
-
-    /// Takes a whole part where a term may begin.
-    fn leaf(&mut self, at: u64, term: Term) -> Result<(), TextFault>
-        ensures ok { OnOk result (leaf strict (nest_of self.old) at term (refusal strict (nest_of self.old)) ≡ Ok (nest_of self.new)) }
-        ensures syntax { (o : ℕ) (why : TextWhy) → result ≡ Err (Syntax o why)
-            → leaf strict (nest_of self.old) at term (refusal strict (nest_of self.old)) ≡ Err (o, why) }
-    {
-        match self.refusal() {
-            Some(why) => Err(TextFault::Syntax(at, why)),
-            None => self.complete(at, term),
         }
     }
 
@@ -240,7 +223,7 @@ impl Nest {
         match self.begun.pop() {
             None => Err(TextFault::Syntax(at, TextWhy::BadToken)),
             Some(start) => {
-                let term = brace_term(alloc, start.term, last_part(place))?;
+                let term = brace_term(alloc, start.term, place)?;
                 self.close(start.at, term, at)
             }
         }
@@ -256,7 +239,7 @@ impl Nest {
         match self.begun.pop() {
             None => Err(TextFault::Syntax(at, TextWhy::BadToken)),
             Some(start) => {
-                let term = list_term(alloc, start.term, last_part(place))?;
+                let term = list_term(alloc, start.term, place)?;
                 self.close(start.at, term, at)
             }
         }
@@ -278,62 +261,24 @@ impl Nest {
         }
     }
 
-    /// Keeps the innermost term, which has changed, where a part must begin next.
-    fn keep(&mut self, start: u64, term: Option<Open>, at: u64) -> Result<(), TextFault>
-        requires { self.old.place ≡ Want }
-        ensures ok { OnOk result ((frame : Frame)
-            → changed_to (record { start = start; frame = frame }) (nest_of self.old).begun (option_map frame_of term) at ≡ Ok (nest_of self.new)) }
-        ensures syntax { (o : ℕ) (why : TextWhy) → result ≡ Err (Syntax o why) → (option_map frame_of term ≡ None) × (o ≡ at) × (why ≡ BadToken) }
-    {
-        match term {
-            None => Err(TextFault::Syntax(at, TextWhy::BadToken)),
-            Some(term) => {
-                self.begun.push(Start { at: start, term })?;
-                Ok(())
-            }
-        }
-    }
-
-    /// Takes a comma.
-    fn comma(&mut self, at: u64) -> Result<(), TextFault>
+    /// Takes a comma, a bar or an arrow.
+    fn divide(&mut self, at: u64, mark: Mark) -> Result<(), TextFault>
         requires { IsFit (2 ^ 24) (nest_of self.old) }
-        ensures ok { OnOk result (take strict (nest_of self.old) at (mark Comma) ≡ Ok (nest_of self.new)) }
-        ensures syntax { (o : ℕ) (why : TextWhy) → result ≡ Err (Syntax o why) → take strict (nest_of self.old) at (mark Comma) ≡ Err (o, why) }
+        ensures ok { OnOk result (change (divided mark) (nest_of self.old) at (nest_of self.old).begun ≡ Ok (nest_of self.new)) }
+        ensures syntax { (o : ℕ) (why : TextWhy) → result ≡ Err (Syntax o why)
+            → change (divided mark) (nest_of self.old) at (nest_of self.old).begun ≡ Err (o, why) }
     {
         let place = mem::replace(&mut self.place, NestPlace::Want);
-        match self.begun.pop() {
+        match self.begun.last_mut() {
             None => Err(TextFault::Syntax(at, TextWhy::BadToken)),
-            Some(start) => {
-                let term = after_comma(start.term, place)?;
-                self.keep(start.at, term, at)
+            Some(innermost) => {
+                let is_taken = innermost.term.divide(mark, place)?;
+                if is_taken {
+                    Ok(())
+                } else {
+                    Err(TextFault::Syntax(at, TextWhy::BadToken))
+                }
             }
-        }
-    }
-
-    /// Takes a bar.
-    fn bar(&mut self, at: u64) -> Result<(), TextFault>
-        ensures ok { OnOk result (take strict (nest_of self.old) at (mark Bar) ≡ Ok (nest_of self.new)) }
-        ensures syntax { (o : ℕ) (why : TextWhy) → result ≡ Err (Syntax o why) → take strict (nest_of self.old) at (mark Bar) ≡ Err (o, why) }
-    {
-        let place = mem::replace(&mut self.place, NestPlace::Want);
-        match self.begun.pop() {
-            None => Err(TextFault::Syntax(at, TextWhy::BadToken)),
-            Some(start) => {
-                let term = after_bar(start.term, place)?;
-                self.keep(start.at, term, at)
-            }
-        }
-    }
-
-    /// Takes an arrow.
-    fn arrow(&mut self, at: u64) -> Result<(), TextFault>
-        ensures ok { OnOk result (take strict (nest_of self.old) at (mark Arrow) ≡ Ok (nest_of self.new)) }
-        ensures syntax { (o : ℕ) (why : TextWhy) → result ≡ Err (Syntax o why) → take strict (nest_of self.old) at (mark Arrow) ≡ Err (o, why) }
-    {
-        let place = mem::replace(&mut self.place, NestPlace::Want);
-        match self.begun.pop() {
-            None => Err(TextFault::Syntax(at, TextWhy::BadToken)),
-            Some(start) => self.keep(start.at, after_arrow(start.term, place), at),
         }
     }
 
@@ -380,15 +325,15 @@ impl Nest {
     {
         match mark {
             Mark::OpenTuple => self.begin(at, Open::Tuple(TermList::new(alloc))),
-            Mark::OpenMap => self.begin(at, Open::Pairs(MapPairs::new(alloc))),
-            Mark::OpenList => self.begin(at, Open::Elements(TermList::new(alloc))),
+            Mark::OpenMap => self.begin(at, Open::Map(MapPairs::new(alloc), None)),
+            Mark::OpenList => self.begin(at, Open::List(TermList::new(alloc), false)),
             Mark::OpenBits => self.begin(at, Open::Bits(ByteList::new(alloc))),
             Mark::CloseBrace => self.close_brace(alloc, at),
             Mark::CloseList => self.close_list(alloc, at),
             Mark::CloseBits => self.close_bits(at),
-            Mark::Bar => self.bar(at),
-            Mark::Comma => self.comma(at),
-            Mark::Arrow => self.arrow(at),
+            Mark::Bar => self.divide(at, Mark::Bar),
+            Mark::Comma => self.divide(at, Mark::Comma),
+            Mark::Arrow => self.divide(at, Mark::Arrow),
             Mark::Colon => self.colon(at),
             Mark::FullStop => self.stop(at),
         }
@@ -405,7 +350,10 @@ impl Nest {
         }
         match self.place {
             NestPlace::Colon(start, segment) => self.take_size(start, segment, value),
-            _ => self.leaf(at, Term::int(value)),
+            _ => match self.refusal() {
+                Some(why) => Err(TextFault::Syntax(at, why)),
+                None => self.complete(at, Term::int(value)),
+            },
         }
     }
 
@@ -446,8 +394,13 @@ impl Nest {
         ensures syntax { (o : ℕ) (why : TextWhy) → result ≡ Err (Syntax o why)
             → leaf strict (nest_of self.old) at (atom name) (refusal strict (nest_of self.old)) ≡ Err (o, why) }
     {
-        let term = within_limits(Term::atom_of(name))?;
-        self.leaf(at, term)
+        match self.refusal() {
+            Some(why) => Err(TextFault::Syntax(at, why)),
+            None => {
+                let term = within_limits(Term::atom_of(name))?;
+                self.complete(at, term)
+            }
+        }
     }
 
     /// Takes a string of so many characters that begins at an offset. `Syntax` says at which offset and why it may not stand there,
@@ -546,7 +499,7 @@ impl Nest {
         matches!(self.place, NestPlace::After(_, _))
             && match self.begun.last() {
                 None => false,
-                Some(innermost) => matches!(innermost.term, Open::Pairs(_)),
+                Some(innermost) => matches!(innermost.term, Open::Map(_, None)),
             }
     }
 
