@@ -37,7 +37,6 @@ pub enum Node {
 #[derive(Drop)]
 pub struct Term {
     pub(crate) node: Node,
-    levels: u32,
 }
 
 const MAX_DEPTH: u32 = 256;
@@ -60,23 +59,20 @@ impl Model for Term {
 
     ghost view = { λ a. shown a.node };
 
-    ghost invariant = { λ a. (a.levels ≡ depth (shown a.node)) × IsTerm (shown a.node) × IsSound a.node };
+    ghost invariant = { λ a. IsTerm (shown a.node) × IsSound a.node };
 
     ghost size = { λ t. 2 * depth t };
 
     ghost use Rattle.dets_term.specs.NodeFalls.{deep_le-depth};
 
-    ghost size_decreases = { λ a h. deep_le-depth a.node h.2 };
+    ghost size_decreases = { λ a h. deep_le-depth a.node h.1 };
 }
 
 impl Term {
     pub fn int(v: i128) -> Term
         ensures { result ≡ integer v }
     {
-        Term {
-            node: Node::Int(v),
-            levels: 1,
-        }
+        Term { node: Node::Int(v) }
     }
 
     /// `LongAtom` above 255 characters.
@@ -91,7 +87,6 @@ impl Term {
         let name = Text::from_str(alloc, text)?;
         Ok(Term {
             node: Node::Atom(name),
-            levels: 1,
         })
     }
 
@@ -104,7 +99,6 @@ impl Term {
         }
         Ok(Term {
             node: Node::Atom(name),
-            levels: 1,
         })
     }
 
@@ -112,11 +106,10 @@ impl Term {
     pub fn tuple(mut parts: TermList) -> Result<Term, TermFault>
         ensures { result ≡ built (length parts) (tuple (chain parts nil)) }
     {
-        let levels = levels_above(&parts)?;
+        levels_above(&parts)?;
         parts.shrink_to_fit();
         Ok(Term {
             node: Node::Tuple(parts),
-            levels,
         })
     }
 
@@ -124,11 +117,10 @@ impl Term {
     pub fn list(mut parts: TermList) -> Result<Term, TermFault>
         ensures { result ≡ built (length parts) (chain parts nil) }
     {
-        let levels = levels_above(&parts)?;
+        levels_above(&parts)?;
         parts.shrink_to_fit();
         Ok(Term {
             node: Node::List(parts),
-            levels,
         })
     }
 
@@ -141,10 +133,9 @@ impl Term {
         if pairs.len() <= MAX_PARTS && !pairs.keys_ascend() {
             return Err(TermFault::RepeatedKey);
         }
-        let levels = level_above(pairs.len(), pairs.levels())?;
+        level_above(pairs.len(), pairs.levels())?;
         Ok(Term {
             node: Node::Map(pairs),
-            levels,
         })
     }
 
@@ -154,11 +145,11 @@ impl Term {
     pub fn list_with_tail(alloc: Global, mut parts: TermList, tail: Term) -> Result<Term, TermFault>
         ensures { (result ≡ Err OutOfMemory) ⊎ (result ≡ built (length (elements (chain parts tail))) (chain parts tail)) }
     {
-        let levels = tail.levels;
+        let Term { node } = tail;
         if parts.len() == 0 {
-            return Ok(tail);
+            return Ok(Term { node });
         }
-        match tail.node {
+        match node {
             Node::List(rest) => {
                 parts.append(rest)?;
                 Term::list(parts)
@@ -168,7 +159,7 @@ impl Term {
                 improper(parts, last)
             }
             node => {
-                let last = boxed(alloc, Term { node, levels })?;
+                let last = boxed(alloc, Term { node })?;
                 improper(parts, last)
             }
         }
@@ -180,11 +171,10 @@ impl Term {
         requires { MayUse bytes used }
         ensures { result ≡ bits_built bytes used }
     {
-        let levels = level_above(bytes.len(), 0)?;
+        level_above(bytes.len(), 0)?;
         bytes.clear_unused(used);
         Ok(Term {
             node: Node::Bits(bytes, used),
-            levels,
         })
     }
 
@@ -212,10 +202,7 @@ impl Term {
             }
             Node::Bits(bytes, used) => Node::Bits(bytes.copy(alloc)?, *used),
         };
-        Ok(Term {
-            node,
-            levels: self.levels,
-        })
+        Ok(Term { node })
     }
 
     /// How many levels the term has, 1 to 256.
@@ -223,7 +210,15 @@ impl Term {
         ensures value { result ≡ depth self.now }
         ensures term { IsTerm self.now }
     {
-        self.levels
+        match &self.node {
+            Node::Int(_) => 1,
+            Node::Atom(_) => 1,
+            Node::Tuple(parts) => parts.levels() + 1,
+            Node::Map(pairs) => pairs.levels() + 1,
+            Node::List(parts) => parts.levels() + 1,
+            Node::Improper(parts, tail) => parts.levels().max(tail.depth()) + 1,
+            Node::Bits(_, _) => 1,
+        }
     }
 }
 
@@ -253,10 +248,9 @@ fn improper(parts: TermList, tail: Box<Term>) -> Result<Term, TermFault>
     requires no_list { is_list tail.value ≡ false }
     ensures { result ≡ built (length parts) (chain parts tail.value) }
 {
-    let levels = level_above(parts.len(), parts.levels().max(tail.depth()))?;
+    level_above(parts.len(), parts.levels().max(tail.depth()))?;
     Ok(Term {
         node: Node::Improper(parts, tail),
-        levels,
     })
 }
 

@@ -59,7 +59,7 @@ cmp-returns-in-List-List t c =
 
 pub cmp-returns-in-List-Improper : goal.cmp-returns-in-List-Improper
 cmp-returns-in-List-Improper t c =
-    let sound = subst IsSound c.in-List-Improper.is-1 c.b.invariant.2 in
+    let sound = subst IsSound c.in-List-Improper.is-1 c.b.invariant.1 in
     c.then-in-List-Improper.ensures
     ∙ (λ i. ordering_then (c.cmp_fronts-in-List-Improper.ensures i)
     ((c.cmp_ends-in-List-Improper.ensures ∙ ap (λ r. ends_order (length c.in-List-Improper.parts) 4 (length c.in-List-Improper.others) r)
@@ -69,7 +69,7 @@ cmp-returns-in-List-Improper t c =
 
 pub cmp-returns-in-Improper-List : goal.cmp-returns-in-Improper-List
 cmp-returns-in-Improper-List t c =
-    let sound = subst IsSound c.in-Improper-List.is-0 c.a.invariant.2 in
+    let sound = subst IsSound c.in-Improper-List.is-0 c.a.invariant.1 in
     c.then-in-Improper-List.ensures
     ∙ (λ i. ordering_then (c.cmp_fronts-in-Improper-List.ensures i)
     ((c.cmp_ends-in-Improper-List.ensures ∙ ap (λ r. ends_order (length c.in-Improper-List.parts) r (length c.in-Improper-List.others) 4)
@@ -79,8 +79,8 @@ cmp-returns-in-Improper-List t c =
 
 pub cmp-returns-then-len-2 : goal.cmp-returns-then-len-2
 cmp-returns-then-len-2 t c =
-    let first = subst IsSound c.in-Improper-Improper.is-0 c.a.invariant.2 in
-    let second = subst IsSound c.in-Improper-Improper.is-1 c.b.invariant.2 in
+    let first = subst IsSound c.in-Improper-Improper.is-0 c.a.invariant.1 in
+    let second = subst IsSound c.in-Improper-Improper.is-1 c.b.invariant.1 in
     c.cmp-then-len-2.ensures ∙ (λ i. order (c.deref-then-len-2.ensures i) (c.deref-then-len-2-2.ensures i))
     ∙ sym (order-improper_ends c.in-Improper-Improper.parts c.in-Improper-Improper.others c.in-Improper-Improper.tail.value
     c.in-Improper-Improper.other_tail.value first.1 second.1
@@ -90,8 +90,8 @@ cmp-returns-then-len-2 t c =
 
 pub cmp-returns-else-is_eq : goal.cmp-returns-else-is_eq
 cmp-returns-else-is_eq t c =
-    let first = subst IsSound c.in-Improper-Improper.is-0 c.a.invariant.2 in
-    let second = subst IsSound c.in-Improper-Improper.is-1 c.b.invariant.2 in
+    let first = subst IsSound c.in-Improper-Improper.is-0 c.a.invariant.1 in
+    let second = subst IsSound c.in-Improper-Improper.is-1 c.b.invariant.1 in
     let x = c.in-Improper-Improper.tail.value in
     let y = c.in-Improper-Improper.other_tail.value in
     let whole : order (chain c.in-Improper-Improper.parts x) (chain c.in-Improper-Improper.others y)
@@ -115,8 +115,8 @@ cmp-returns-else-is_eq t c =
 
 pub cmp-returns-in-Bits-Bits : goal.cmp-returns-in-Bits-Bits
 cmp-returns-in-Bits-Bits t c =
-    let first = subst IsSound c.in-Bits-Bits.is-0 c.a.invariant.2 in
-    let second = subst IsSound c.in-Bits-Bits.is-1 c.b.invariant.2 in
+    let first = subst IsSound c.in-Bits-Bits.is-0 c.a.invariant.1 in
+    let second = subst IsSound c.in-Bits-Bits.is-1 c.b.invariant.1 in
     let mine = c.as_slice.ensures in
     let other = c.as_slice-in-Bits-Bits.ensures in
     c.then-in-Bits-Bits.ensures
@@ -129,7 +129,7 @@ cmp-returns-in-Bits-Bits t c =
 pub cmp-returns-in_default : goal.cmp-returns-in_default
 cmp-returns-in_default t c =
     c.cmp-in_default.ensures ∙ (λ i. nat_cmp (c.rank-in_default.ensures i) (c.rank-in_default-2.ensures i))
-    ∙ order-kinds c.a.inside.node c.b.inside.node c.a.view_is c.b.view_is c.a.invariant.2 c.b.invariant.2 (elim c.in_default.branch [
+    ∙ order-kinds c.a.inside.node c.b.inside.node c.a.view_is c.b.view_is c.a.invariant.1 c.b.invariant.1 (elim c.in_default.branch [
       | cmp-in_default-via-in-Int+in_default w ↦ not_int c.b.inside.node w.in_default.is-0 w.in_default.not-Int-1
       | cmp-in_default-via-in-Atom+in_default w ↦ not_atom c.b.inside.node w.in_default.is-0 w.in_default.not-Atom-1
       | cmp-in_default-via-in-Tuple+in_default w ↦ not_tuple c.b.inside.node w.in_default.is-0 w.in_default.not-Tuple-1

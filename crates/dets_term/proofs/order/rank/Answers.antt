@@ -16,4 +16,4 @@ returns-else-len-eq0 c =
 pub returns-in-Improper : goal.returns-in-Improper
 returns-in-Improper c =
     sym (ap rank (sym c.term.view_is ∙ ap shown c.in-Improper.is)
-    ∙ rank-chain c.in-Improper.field-0 c.in-Improper.field-1.value (subst IsSound c.in-Improper.is c.term.invariant.2).0)
+    ∙ rank-chain c.in-Improper.field-0 c.in-Improper.field-1.value (subst IsSound c.in-Improper.is c.term.invariant.1).0)

@@ -13,7 +13,7 @@ returns-in_err-name-clause-long c =
 
 pub invariant_of-result : goal.invariant_of-result
 invariant_of-result c =
-    (refl, record { shallow = omega arith; bounded = rw c.in_ok-name.ensures (omega arith, all_scalars-chars c.args.text.now c.utf8.text) }, tt)
+    (record { shallow = omega arith; bounded = rw c.in_ok-name.ensures (omega arith, all_scalars-chars c.args.text.now c.utf8.text) }, tt)
 
 pub returns-clause-long : goal.returns-clause-long
 returns-clause-long c = (λ e. cc, λ h. absurd (omega arith))

@@ -5,6 +5,6 @@ use Rattle.dets_term.proofs.term.Term.bits.Goals as goal
 
 pub invariant_of-result : goal.invariant_of-result
 invariant_of-result c =
-    let limits = limited_ok c.len.result 1 1 c.in_ok-levels.levels (sym c.in_ok-levels.ensures) in
+    let limits = limited_ok c.len.result 1 1 c.in_ok-level_above.field-0 (sym c.in_ok-level_above.ensures) in
     let size = length-bits_of c.clear_unused.new.self c.args.used in
-    (sym limits.2, record { shallow = omega arith; bounded = omega (arith, c.clear_unused.ensures.len, limits.0) }, c.clear_unused.ensures.padded)
+    (record { shallow = omega arith; bounded = omega (arith, c.clear_unused.ensures.len, limits.0) }, c.clear_unused.ensures.padded)
