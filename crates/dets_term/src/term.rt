@@ -34,9 +34,16 @@ pub enum Node {
 /// A term within its limits: at most 256 levels, fewer than 2^32 parts or bytes in each node, at most 255
 /// characters in an atom.
 #[cycle(term)]
-#[derive(Drop)]
 pub struct Term {
     pub(crate) node: Node,
+}
+
+/// In one function, so that code that may drop a term stays small.
+impl Drop for Term {
+    #[cycle(term)]
+    fn drop(self) {
+        let Term { node: _ } = self;
+    }
 }
 
 const MAX_DEPTH: u32 = 256;
