@@ -56,6 +56,7 @@ impl TermList {
         ensures err { OnErr result (self.new ≡ self.old) }
     {
         let levels = self.levels.max(item.depth());
+        take_first_room(&mut self.items)?;
         self.items.push(item)?;
         self.levels = levels;
         Ok(())
@@ -113,4 +114,14 @@ impl TermList {
         }
         Ok(made)
     }
+}
+
+/// Takes room for two terms where there is none yet: most tuples have few parts.
+fn take_first_room(items: &mut Vec<Term>) -> Result<(), Memory>
+    ensures { items.new.items ≡ items.old.items }
+{
+    if items.is_empty() {
+        items.reserve_exact(2)?;
+    }
+    Ok(())
 }
