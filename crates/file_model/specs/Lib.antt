@@ -1,0 +1,11 @@
+-- The definitions of this crate, one file for each idea.
+
+-- ---- cited by public contracts
+pub mod Layout
+pub mod Header
+pub mod Block
+pub mod View
+pub mod Taken
+pub mod Fit
+-- ---- what worked rows look into
+pub mod Rows
