@@ -1,1 +1,5 @@
 pub mod Computing
+pub mod Seen
+pub mod OneKey
+pub mod Lowest
+pub mod OldOrNew

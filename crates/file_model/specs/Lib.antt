@@ -7,5 +7,6 @@ pub mod Block
 pub mod View
 pub mod Taken
 pub mod Fit
+pub mod Gates
 -- ---- what worked rows look into
 pub mod Rows

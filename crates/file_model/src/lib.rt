@@ -12,5 +12,6 @@ pub use reject::{Reason, Reject};
 
 mod entry;
 mod head;
+pub mod laws;
 mod reject;
 pub mod rows;

@@ -1,0 +1,41 @@
+//! Laws of what is seen of a file, as contracts of functions that do nothing.
+ghost use Rattle.std.specs.Prelude.{◌≡◌, ◌≤◌, ◌<◌, ℕ, [], Ok};
+ghost use Rattle.term_model.specs.TermValue.{TermValue};
+ghost use Rattle.table_model.specs.Table.{objects_of};
+ghost use Rattle.file_model.specs.declared.head.Head.{Head};
+ghost use Rattle.file_model.specs.Block.{Block};
+ghost use Rattle.file_model.specs.View.{Units, view};
+ghost use Rattle.file_model.specs.Taken.{table_of};
+ghost use Rattle.file_model.specs.Gates.{Gates, AreRead, StandsOpen, NoneMeet, NoneShareKeys, SeenAlike, lowest_objects, table_with, MayFlush, OpenBetween, OldOrNew};
+
+/// A unit whose gate is closed says nothing, whatever its bytes are.
+pub fn a_unit_whose_gate_is_closed_says_nothing()
+    ensures { (h : Head) (old new : Units) → SeenAlike old new → view h new ≡ view h old }
+{}
+
+/// Where no two blocks at open units meet, a key has the objects of its lowest one.
+pub fn a_key_has_the_objects_of_its_lowest_block()
+    ensures { (h : Head) (units : Units) (gates : Gates) (k : TermValue) → AreRead h units → NoneMeet gates units
+        → objects_of (table_with h units gates) k ≡ lowest_objects gates units.stands k units.count 0 }
+{}
+
+/// While the gates of new blocks are opened, whichever are, each key has its old or its new objects; and so it has while
+/// those of the old blocks are closed then.
+pub fn while_gates_change_each_key_has_its_old_or_its_new_objects()
+    ensures opening { (h : Head) (units : Units) (before after now : Gates) → MayFlush h units before after → OpenBetween before after now
+        → OldOrNew (table_with h units before) (table_with h units after) (table_with h units now) }
+    ensures closing { (h : Head) (units : Units) (before after now : Gates) → MayFlush h units before after → OpenBetween after before now
+        → OldOrNew (table_with h units before) (table_with h units after) (table_with h units now) }
+{}
+
+/// Where no two blocks at open units meet or share a key, a key has the objects of its one block, and none where it has no
+/// block. Where the gates of a key's blocks stay the key has what it had.
+pub fn a_key_has_the_objects_of_its_one_block()
+    ensures one { (h : Head) (units : Units) (gates : Gates) (u : ℕ) (b : Block) → AreRead h units → NoneMeet gates units → NoneShareKeys gates units
+        → StandsOpen gates units u b → objects_of (table_with h units gates) b.key ≡ b.objects }
+    ensures none { (h : Head) (units : Units) (gates : Gates) (k : TermValue) → AreRead h units → NoneMeet gates units
+        → ((u : ℕ) (b : Block) → StandsOpen gates units u b → b.key ≡ k → ⊥) → objects_of (table_with h units gates) k ≡ [] }
+    ensures others { (h : Head) (units : Units) (before after : Gates) (k : TermValue) → AreRead h units → NoneMeet before units → NoneMeet after units
+        → ((u : ℕ) (b : Block) → u < units.count → units.stands u ≡ Ok b → b.key ≡ k → after u ≡ before u)
+        → objects_of (table_with h units after) k ≡ objects_of (table_with h units before) k }
+{}
