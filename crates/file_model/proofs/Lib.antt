@@ -3,3 +3,5 @@ pub mod Seen
 pub mod OneKey
 pub mod Lowest
 pub mod OldOrNew
+pub mod Rejects
+pub mod Judged

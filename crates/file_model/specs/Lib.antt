@@ -6,6 +6,7 @@ pub mod Header
 pub mod Block
 pub mod View
 pub mod Taken
+pub mod Judgement
 pub mod Fit
 pub mod Gates
 -- ---- what worked rows look into

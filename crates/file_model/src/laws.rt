@@ -1,12 +1,14 @@
 //! Laws of what is seen of a file, as contracts of functions that do nothing.
-ghost use Rattle.std.specs.Prelude.{◌≡◌, ◌≤◌, ◌<◌, ℕ, [], Ok};
+ghost use Rattle.std.specs.Prelude.{◌≡◌, ◌≤◌, ◌<◌, ℕ, List, [], Ok, Err};
 ghost use Rattle.term_model.specs.TermValue.{TermValue};
 ghost use Rattle.table_model.specs.Table.{objects_of};
 ghost use Rattle.file_model.specs.declared.head.Head.{Head};
-ghost use Rattle.file_model.specs.Block.{Block};
-ghost use Rattle.file_model.specs.View.{Units, view};
-ghost use Rattle.file_model.specs.Taken.{table_of};
-ghost use Rattle.file_model.specs.Gates.{Gates, AreRead, StandsOpen, NoneMeet, NoneShareKeys, SeenAlike, lowest_objects, table_with, MayFlush, OpenBetween, OldOrNew};
+ghost use Rattle.file_model.specs.declared.reject.Reason.{Reason};
+ghost use Rattle.file_model.specs.Block.{Block, Standing};
+ghost use Rattle.file_model.specs.View.{Units, View, view};
+ghost use Rattle.file_model.specs.Taken.{judged, taken, table_of};
+ghost use Rattle.file_model.specs.Judgement.{IsTaken, AreTaken, IsReason};
+ghost use Rattle.file_model.specs.Gates.{Gates, AreRead, StandsOpen, NoneMeet, NoneShareKeys, SeenAlike, lowest_objects, table_with, MayFlush, OpenBetween, OldOrNew, ClosesRejects};
 
 /// A unit whose gate is closed says nothing, whatever its bytes are.
 pub fn a_unit_whose_gate_is_closed_says_nothing()
@@ -38,4 +40,18 @@ pub fn a_key_has_the_objects_of_its_one_block()
     ensures others { (h : Head) (units : Units) (before after : Gates) (k : TermValue) → AreRead h units → NoneMeet before units → NoneMeet after units
         → ((u : ℕ) (b : Block) → u < units.count → units.stands u ≡ Ok b → b.key ≡ k → after u ≡ before u)
         → objects_of (table_with h units after) k ≡ objects_of (table_with h units before) k }
+{}
+
+/// Closing the gates of rejects, whichever are closed, leaves the table.
+pub fn closing_the_gates_of_rejects_leaves_the_table()
+    ensures { (h : Head) (units : Units) (now : Gates) → ClosesRejects h units now → table_with h units now ≡ table_of (view h units) }
+{}
+
+/// Just those blocks are taken that no taken block below covers and whose key none has, and what is not taken has the first
+/// of the reasons.
+pub fn a_block_is_taken_where_none_below_covers_it_or_has_its_key()
+    ensures taken { (v : View) → AreTaken (taken v) [] }
+    ensures takes { (below : List Block) (b : Block) → IsTaken below b → judged below (Ok b) ≡ Ok b }
+    ensures only { (below : List Block) (s : Standing) (b : Block) → judged below s ≡ Ok b → (s ≡ Ok b) × IsTaken below b }
+    ensures reason { (below : List Block) (s : Standing) (reason : Reason) → judged below s ≡ Err reason → IsReason below s reason }
 {}
