@@ -9,5 +9,7 @@ pub mod Taken
 pub mod Judgement
 pub mod Fit
 pub mod Gates
+-- ---- lemmas, for the crates above too
+pub mod LayoutLaws
 -- ---- what worked rows look into
 pub mod Rows

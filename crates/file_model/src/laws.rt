@@ -1,14 +1,29 @@
 //! Laws of what is seen of a file, as contracts of functions that do nothing.
-ghost use Rattle.std.specs.Prelude.{◌≡◌, ◌≤◌, ◌<◌, ℕ, List, [], Ok, Err};
+ghost use Rattle.std.specs.Prelude.{◌≡◌, ◌≤◌, ◌<◌, ◌⊎◌, ℕ, ◌+◌, ◌*◌, ◌%◌, ◌^◌, List, [], length, Ok, Err};
 ghost use Rattle.term_model.specs.TermValue.{TermValue};
 ghost use Rattle.table_model.specs.Table.{objects_of};
 ghost use Rattle.file_model.specs.declared.head.Head.{Head};
 ghost use Rattle.file_model.specs.declared.reject.Reason.{Reason};
+ghost use Rattle.file_model.specs.Layout.{unit_size, gate_at, unit_at, segment_end, whole_segments};
+ghost use Rattle.file_model.specs.LayoutLaws.{EndsInSegment};
 ghost use Rattle.file_model.specs.Block.{Block, Standing};
 ghost use Rattle.file_model.specs.View.{Units, View, view};
 ghost use Rattle.file_model.specs.Taken.{judged, taken, table_of};
 ghost use Rattle.file_model.specs.Judgement.{IsTaken, AreTaken, IsReason};
 ghost use Rattle.file_model.specs.Gates.{Gates, AreRead, StandsOpen, NoneMeet, NoneShareKeys, SeenAlike, lowest_objects, table_with, MayFlush, OpenBetween, OldOrNew, ClosesRejects};
+
+/// Two units have two gates. No gate is in a unit, nor behind one in its segment. Runs that do not meet have no byte in
+/// common, and an aligned run that is no larger than a segment ends in its segment.
+pub fn gates_and_units_do_not_meet()
+    ensures gates { (per_segment u w : ℕ) → 0 < per_segment → gate_at per_segment u ≡ gate_at per_segment w → u ≡ w }
+    ensures gate_and_unit { (per_segment u w : ℕ) → 0 < per_segment
+        → (gate_at per_segment u < unit_at per_segment w) ⊎ (segment_end per_segment w ≤ gate_at per_segment u) }
+    ensures runs { (per_segment u w units : ℕ) → 0 < per_segment → EndsInSegment per_segment u units → u + units ≤ w
+        → unit_at per_segment u + unit_size * units ≤ unit_at per_segment w }
+    ensures aligned { (power u exp : ℕ) → 2 ^ exp ≤ 2 ^ power → u % 2 ^ exp ≡ 0 → EndsInSegment (2 ^ power) u (2 ^ exp) }
+    ensures whole { (per_segment u segments : ℕ) (image : List ℕ) → 0 < per_segment → u < per_segment * segments
+        → segments ≤ whole_segments per_segment image → segment_end per_segment u ≤ length image }
+{}
 
 /// A unit whose gate is closed says nothing, whatever its bytes are.
 pub fn a_unit_whose_gate_is_closed_says_nothing()
