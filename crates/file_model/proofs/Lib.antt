@@ -5,3 +5,4 @@ pub mod Lowest
 pub mod OldOrNew
 pub mod Rejects
 pub mod Judged
+pub mod Local

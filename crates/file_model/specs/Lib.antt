@@ -9,6 +9,8 @@ pub mod Taken
 pub mod Judgement
 pub mod Fit
 pub mod Gates
+pub mod Stands
+pub mod Images
 -- ---- lemmas, for the crates above too
 pub mod LayoutLaws
 -- ---- what worked rows look into

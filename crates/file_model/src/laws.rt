@@ -1,13 +1,16 @@
 //! Laws of what is seen of a file, as contracts of functions that do nothing.
 ghost use Rattle.std.specs.Prelude.{◌≡◌, ◌≤◌, ◌<◌, ◌⊎◌, ℕ, ◌+◌, ◌*◌, ◌%◌, ◌^◌, List, [], length, Ok, Err};
 ghost use Rattle.term_model.specs.TermValue.{TermValue};
+ghost use Rattle.term_model.specs.declared.kind.Kind.{Kind};
 ghost use Rattle.table_model.specs.Table.{objects_of};
 ghost use Rattle.file_model.specs.declared.head.Head.{Head};
 ghost use Rattle.file_model.specs.declared.reject.Reason.{Reason};
 ghost use Rattle.file_model.specs.Layout.{unit_size, gate_at, unit_at, segment_end, whole_segments};
 ghost use Rattle.file_model.specs.LayoutLaws.{EndsInSegment};
-ghost use Rattle.file_model.specs.Block.{Block, Standing};
-ghost use Rattle.file_model.specs.View.{Units, View, view};
+ghost use Rattle.file_model.specs.Block.{Block, Standing, standing};
+ghost use Rattle.file_model.specs.Stands.{StandsAligned};
+ghost use Rattle.file_model.specs.Images.{ImagesAgree};
+ghost use Rattle.file_model.specs.View.{Units, View, view, units_in};
 ghost use Rattle.file_model.specs.Taken.{judged, taken, table_of};
 ghost use Rattle.file_model.specs.Judgement.{IsTaken, AreTaken, IsReason};
 ghost use Rattle.file_model.specs.Gates.{Gates, AreRead, StandsOpen, NoneMeet, NoneShareKeys, SeenAlike, lowest_objects, table_with, MayFlush, OpenBetween, OldOrNew, ClosesRejects};
@@ -69,4 +72,18 @@ pub fn a_block_is_taken_where_none_below_covers_it_or_has_its_key()
     ensures takes { (below : List Block) (b : Block) → IsTaken below b → judged below (Ok b) ≡ Ok b }
     ensures only { (below : List Block) (s : Standing) (b : Block) → judged below s ≡ Ok b → (s ≡ Ok b) × IsTaken below b }
     ensures reason { (below : List Block) (s : Standing) (reason : Reason) → judged below s ≡ Err reason → IsReason below s reason }
+{}
+
+/// A block that stands at a unit is no larger than a segment and aligned, and its objects are some that the kind allows
+/// for its key.
+pub fn a_block_stands_as_it_is_read()
+    ensures aligned { (per_segment : ℕ) (kind : Kind) (keypos unit : ℕ) (bytes : List ℕ) (b : Block)
+        → standing per_segment kind keypos unit bytes ≡ Ok b → StandsAligned per_segment kind keypos unit b }
+    ensures read { (per_segment : ℕ) (h : Head) (image : List ℕ) → AreRead h (units_in per_segment h image) }
+{}
+
+/// Images that agree on the number of units, on their gates and on the heads and payloads behind open ones are seen alike.
+pub fn what_is_seen_depends_on_gates_and_on_what_stands_behind_open_ones()
+    ensures { (per_segment : ℕ) (h : Head) (old new : List ℕ) → ImagesAgree per_segment h old new
+        → view h (units_in per_segment h new) ≡ view h (units_in per_segment h old) }
 {}
