@@ -6,3 +6,7 @@ pub mod OldOrNew
 pub mod Rejects
 pub mod Judged
 pub mod Local
+pub mod HeaderBack
+pub mod Payload
+pub mod Grown
+pub mod NoRejects

@@ -44,6 +44,12 @@ NoneShareKeys gates units = (u w : ℕ) (b c : Block) → StandsOpen gates units
 abbrev pub HaveBlocks : Gates → Units → Type 0
 HaveBlocks gates units = (u : ℕ) → u < units.count → gates u ≡ true → (b : Block) × (units.stands u ≡ Ok b)
 
+-- each open gate is that of a taken block
+pub record OpenAtTaken (units : Units) : Type 0 where
+  pub blocks : HaveBlocks units.is_open units
+  pub apart : NoneMeet units.is_open units
+  pub keys : NoneShareKeys units.is_open units
+
 -- ---- the lowest block of a key
 
 abbrev pub standing_has : TermValue → Standing → Bool

@@ -1,19 +1,23 @@
 //! Laws of what is seen of a file, as contracts of functions that do nothing.
-ghost use Rattle.std.specs.Prelude.{◌≡◌, ◌≤◌, ◌<◌, ◌⊎◌, ℕ, ◌+◌, ◌*◌, ◌%◌, ◌^◌, List, [], length, Ok, Err};
+ghost use Rattle.std.specs.Prelude.{◌≡◌, ◌≤◌, ◌<◌, ◌⊎◌, ℕ, ◌+◌, ◌*◌, ◌%◌, ◌^◌, List, Bool, true, false, ◌||◌, [], length, Some, Ok, Err};
 ghost use Rattle.term_model.specs.TermValue.{TermValue};
 ghost use Rattle.term_model.specs.declared.kind.Kind.{Kind};
 ghost use Rattle.table_model.specs.Table.{objects_of};
 ghost use Rattle.file_model.specs.declared.head.Head.{Head};
 ghost use Rattle.file_model.specs.declared.reject.Reason.{Reason};
-ghost use Rattle.file_model.specs.Layout.{unit_size, gate_at, unit_at, segment_end, whole_segments};
+ghost use Rattle.etf_model.specs.Spelling.{Spells};
+ghost use Rattle.file_model.specs.declared.head.FileState.TheVariants.{Dirty};
+ghost use Rattle.file_model.specs.Header.{is_allowed, body_of, head_in, segments_in};
+ghost use Rattle.file_model.specs.Fit.{has_no_rejects, is_sound, needs_repair};
+ghost use Rattle.file_model.specs.Layout.{is_open_at, unit_size, gate_at, unit_at, segment_end, whole_segments};
 ghost use Rattle.file_model.specs.LayoutLaws.{EndsInSegment};
-ghost use Rattle.file_model.specs.Block.{Block, Standing, standing};
+ghost use Rattle.file_model.specs.Block.{Block, Standing, standing, term_in};
 ghost use Rattle.file_model.specs.Stands.{StandsAligned};
 ghost use Rattle.file_model.specs.Images.{ImagesAgree};
 ghost use Rattle.file_model.specs.View.{Units, View, view, units_in};
 ghost use Rattle.file_model.specs.Taken.{judged, taken, table_of};
 ghost use Rattle.file_model.specs.Judgement.{IsTaken, AreTaken, IsReason};
-ghost use Rattle.file_model.specs.Gates.{Gates, AreRead, StandsOpen, NoneMeet, NoneShareKeys, SeenAlike, lowest_objects, table_with, MayFlush, OpenBetween, OldOrNew, ClosesRejects};
+ghost use Rattle.file_model.specs.Gates.{Gates, AreRead, StandsOpen, NoneMeet, NoneShareKeys, SeenAlike, lowest_objects, table_with, MayFlush, OpenBetween, OldOrNew, ClosesRejects, OpenAtTaken};
 
 /// Two units have two gates. No gate is in a unit, nor behind one in its segment. Runs that do not meet have no byte in
 /// common, and an aligned run that is no larger than a segment ends in its segment.
@@ -86,4 +90,37 @@ pub fn a_block_stands_as_it_is_read()
 pub fn what_is_seen_depends_on_gates_and_on_what_stands_behind_open_ones()
     ensures { (per_segment : ℕ) (h : Head) (old new : List ℕ) → ImagesAgree per_segment h old new
         → view h (units_in per_segment h new) ≡ view h (units_in per_segment h old) }
+{}
+
+/// The header of a body that was written is read.
+pub fn a_header_that_was_written_is_read()
+    ensures { (h : Head) → is_allowed h ≡ true → head_in (body_of h) ≡ Ok h }
+{}
+
+/// The term of a payload is the one that all of its bytes spell.
+pub fn a_payload_has_the_term_that_it_spells()
+    ensures read { (t : TermValue) (bytes : List ℕ) → Spells t bytes → term_in bytes ≡ Some t }
+    ensures spelled { (t : TermValue) (bytes : List ℕ) → term_in bytes ≡ Some t → Spells t bytes }
+{}
+
+/// A header that counts more segments, in which all gates are closed, gives the same table.
+pub fn more_segments_with_closed_gates_add_nothing()
+    ensures { (per_segment : ℕ) (h more : Head) (image : List ℕ) → more.kind ≡ h.kind → more.keypos ≡ h.keypos
+        → segments_in per_segment h image ≤ segments_in per_segment more image
+        → ((u : ℕ) → per_segment * segments_in per_segment h image ≤ u → u < per_segment * segments_in per_segment more image
+        → is_open_at image (gate_at per_segment u) ≡ false)
+        → table_of (view more (units_in per_segment more image)) ≡ table_of (view h (units_in per_segment h image)) }
+{}
+
+/// There are no rejects just where each open unit has a block, and these do not meet and share no key.
+pub fn open_gates_stand_at_taken_units_alone_where_nothing_is_rejected()
+    ensures none { (h : Head) (units : Units) → AreRead h units → has_no_rejects (view h units) ≡ true → OpenAtTaken units }
+    ensures only { (h : Head) (units : Units) → AreRead h units → OpenAtTaken units → has_no_rejects (view h units) ≡ true }
+{}
+
+/// A file with a header that can be read is sound or needs repair, and a dirty one is both.
+pub fn a_file_with_a_header_is_sound_or_needs_repair()
+    ensures either { (h : Head) (image : List ℕ) → (is_sound h image || needs_repair h image) ≡ true }
+    ensures dirty_is_sound { (h : Head) (image : List ℕ) → h.state ≡ Dirty → is_sound h image ≡ true }
+    ensures dirty_needs_repair { (h : Head) (image : List ℕ) → h.state ≡ Dirty → needs_repair h image ≡ true }
 {}
