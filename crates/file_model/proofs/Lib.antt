@@ -10,3 +10,4 @@ pub mod HeaderBack
 pub mod Payload
 pub mod Grown
 pub mod NoRejects
+pub mod GateWrites

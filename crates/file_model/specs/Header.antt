@@ -11,7 +11,7 @@ use Rattle.file_model.specs.declared.head.FileState.{FileState}
 use Rattle.file_model.specs.declared.head.FileState.TheVariants.{Closed, Dirty}
 use Rattle.file_model.specs.declared.head.Unreadable.{Unreadable}
 use Rattle.file_model.specs.declared.head.Unreadable.TheVariants.{NotDets, Version}
-use Rattle.file_model.specs.Layout.{page_size, copy_at, body_at, body_size, is_open_at, page_of, whole_segments}
+use Rattle.file_model.specs.Layout.{page_size, copy_at, body_at, body_size, is_open_at, page_of, segments_within, whole_segments}
 
 -- the one version of the file that is read
 abbrev pub the_version : ℕ
@@ -145,12 +145,16 @@ segments_in per_segment h image = min h.segments (whole_segments per_segment ima
 abbrev pub segments_of : Head → List ℕ → ℕ
 segments_of h image = segments_in (units_per_segment h) h image
 
-abbrev pub located_at : List ℕ → Option Bool → Result Head Unreadable → Result Located Unreadable
-located_at image copy (Err why) = Err why
-located_at image None (Ok h) = Err NotDets
-located_at image (Some second) (Ok h) =
-    Ok (record { head = h; second = second; other_gate = is_open_at image (copy_at (not second)); whole = segments_of h image })
+abbrev pub located_at : List ℕ → ℕ → Option Bool → Result Head Unreadable → Result Located Unreadable
+located_at page size copy (Err why) = Err why
+located_at page size None (Ok h) = Err NotDets
+located_at page size (Some second) (Ok h) = Ok (record {
+  head = h;
+  second = second;
+  other_gate = is_open_at page (copy_at (not second));
+  whole = min h.segments (segments_within (units_per_segment h) size);
+})
 
 -- the header and where it was found
 abbrev pub located : List ℕ → Result Located Unreadable
-located image = located_at image (current_copy (page_of image)) (head_of image)
+located image = located_at (page_of image) (length image) (current_copy (page_of image)) (head_of image)

@@ -50,9 +50,15 @@ run_size exp = unit_size * 2 ^ exp
 
 -- ---- what stands in an image of a file
 
--- an open gate is the byte 165
+-- An open gate is this byte. Every other one is closed; writers close gates with 0.
+abbrev pub open_byte : ℕ
+open_byte = 165
+
+abbrev pub closed_byte : ℕ
+closed_byte = 0
+
 abbrev pub is_open_at : List ℕ → ℕ → Bool
-is_open_at image at = slice_index image at == 165
+is_open_at image at = slice_index image at == open_byte
 
 -- the header's page
 abbrev pub page_of : List ℕ → List ℕ
@@ -62,6 +68,9 @@ page_of image = slice_range image 0 page_size
 abbrev pub unit_bytes : ℕ → List ℕ → ℕ → List ℕ
 unit_bytes per_segment image u = slice_range image (unit_at per_segment u) (segment_end per_segment u)
 
--- how many segments lie wholly in a file
+-- how many segments lie wholly in a file of so many bytes, and in an image
+abbrev pub segments_within : ℕ → ℕ → ℕ
+segments_within per_segment size = (size - page_size) / segment_size per_segment
+
 abbrev pub whole_segments : ℕ → List ℕ → ℕ
-whole_segments per_segment image = (length image - page_size) / segment_size per_segment
+whole_segments per_segment image = segments_within per_segment (length image)

@@ -11,6 +11,7 @@ pub mod Fit
 pub mod Gates
 pub mod Stands
 pub mod Images
+pub mod GateWrites
 -- ---- lemmas, for the crates above too
 pub mod LayoutLaws
 -- ---- what worked rows look into

@@ -15,3 +15,4 @@ mod head;
 pub mod laws;
 mod reject;
 pub mod rows;
+pub mod write_laws;

@@ -1,0 +1,34 @@
+//! Laws of what writes leave of a file, as contracts of functions that do nothing.
+ghost use Rattle.std.specs.Prelude.{◌≡◌, ◌≤◌, ◌<◌, ℕ, List, length};
+ghost use Rattle.host_model.specs.Disk.{DiffersIn};
+ghost use Rattle.host_model.specs.Writes.{ranges_of, with_writes};
+ghost use Rattle.file_model.specs.declared.head.Head.{Head};
+ghost use Rattle.file_model.specs.Layout.{page_size, gate_at, open_byte, closed_byte, is_open_at};
+ghost use Rattle.file_model.specs.View.{units_in, view};
+ghost use Rattle.file_model.specs.Gates.{with_gates, OpenBetween, is_among, opened, closed};
+ghost use Rattle.file_model.specs.GateWrites.{gate_writes, AreWhole, AreOpen, AreClosed, OnlyGatesDiffer};
+
+/// Torn writes of gates change no others and nothing else: of closed gates some are open then, of open ones some still are,
+/// and what stands behind them is as before.
+pub fn torn_gates_open_or_close_some()
+    ensures torn { (per_segment byte : ℕ) (us old new : List ℕ) → 0 < per_segment → page_size ≤ length old → AreWhole per_segment us old
+        → DiffersIn (ranges_of (gate_writes per_segment byte us)) old new → OnlyGatesDiffer per_segment us old new }
+    ensures seen { (per_segment : ℕ) (us old new : List ℕ) (h : Head) → OnlyGatesDiffer per_segment us old new
+        → view h (units_in per_segment h new) ≡ view h (with_gates (units_in per_segment h old) (units_in per_segment h new).is_open) }
+    ensures opening { (per_segment : ℕ) (us old new : List ℕ) (h : Head) → AreClosed per_segment us old
+        → OnlyGatesDiffer per_segment us old new
+        → OpenBetween (units_in per_segment h old).is_open (is_among us) (units_in per_segment h new).is_open }
+    ensures closing { (per_segment : ℕ) (us old new : List ℕ) (h : Head) → AreOpen per_segment us old
+        → OnlyGatesDiffer per_segment us old new
+        → OpenBetween (closed us (units_in per_segment h old).is_open) (units_in per_segment h old).is_open (units_in per_segment h new).is_open }
+{}
+
+/// Once they are written all of these gates are open, or closed, and no others.
+pub fn written_gates_are_open_or_closed()
+    ensures opened { (per_segment : ℕ) (us image : List ℕ) (u : ℕ) → 0 < per_segment → AreWhole per_segment us image
+        → is_open_at (with_writes (gate_writes per_segment open_byte us) image) (gate_at per_segment u)
+        ≡ opened us (λ w. is_open_at image (gate_at per_segment w)) u }
+    ensures closed { (per_segment : ℕ) (us image : List ℕ) (u : ℕ) → 0 < per_segment → AreWhole per_segment us image
+        → is_open_at (with_writes (gate_writes per_segment closed_byte us) image) (gate_at per_segment u)
+        ≡ closed us (λ w. is_open_at image (gate_at per_segment w)) u }
+{}
