@@ -11,3 +11,4 @@ pub mod Payload
 pub mod Grown
 pub mod NoRejects
 pub mod GateWrites
+pub mod BodyWrites

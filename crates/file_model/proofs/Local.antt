@@ -124,3 +124,26 @@ images_seen n h old new agree = record {
 
 pub images_same : (n : ℕ) (h : Head) (old new : List ℕ) → ImagesAgree n h old new → view h (units_in n h new) ≡ view h (units_in n h old)
 images_same n h old new agree = view_same h (units_in n h old) (units_in n h new) (images_seen n h old new agree)
+
+-- ---- how far it reaches
+
+judged_aligned : (n : ℕ) (kind : Kind) (keypos unit : ℕ) (h : BlockHead) (objects : List TermValue) (t : Bool) (b : Block)
+    → head_size + h.count ≤ run_size h.exp → cond t (block_of kind keypos unit h.exp objects) (Err NotAligned) ≡ Ok b
+    → cond t (head_size + h.count) head_size ≤ run_size b.exp
+judged_aligned n kind keypos unit h objects false b fits e = absurd (cc e)
+judged_aligned n kind keypos unit h objects true b fits e =
+    let f = with_facts kind keypos unit h.exp objects (one_key kind keypos objects) b refl e in
+    subst (λ x. head_size + h.count ≤ run_size x) (sym f.1) fits
+
+judged_with : (n : ℕ) (kind : Kind) (keypos unit : ℕ) (bytes : List ℕ) (b : Block) (h : Option BlockHead) → block_head n (take head_size bytes) ≡ h
+    → standing_with kind keypos unit bytes h ≡ Ok b → judged_by_head unit h ≤ run_size b.exp
+judged_with n kind keypos unit bytes b None is e = absurd (cc e)
+judged_with n kind keypos unit bytes b (Some h) is e =
+    judged_aligned n kind keypos unit h (proper_elements (term_in (payload_in bytes h))) (unit % 2 ^ h.exp == 0) b
+    (head_fits n (take head_size bytes) h is).1 e
+
+-- no further than the block's units
+pub judged_fits : (n : ℕ) (kind : Kind) (keypos unit : ℕ) (bytes : List ℕ) (b : Block) → standing n kind keypos unit bytes ≡ Ok b
+    → judged_size n unit bytes ≤ run_size b.exp
+unfolding standing
+judged_fits n kind keypos unit bytes b e = judged_with n kind keypos unit bytes b (block_head n (take head_size bytes)) refl e

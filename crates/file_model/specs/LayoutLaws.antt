@@ -109,15 +109,16 @@ gates_apart n u w some same =
 abbrev pub EndsInSegment : (per_segment u units : ℕ) → Type 0
 EndsInSegment per_segment u units = unit_at per_segment u + unit_size * units ≤ segment_end per_segment u
 
--- runs that do not meet have no byte in common
-pub runs_apart : (n u w units : ℕ) → 0 < n → EndsInSegment n u units → u + units ≤ w → unit_at n u + unit_size * units ≤ unit_at n w
-runs_apart n u w units some ends l =
+-- the bytes of some units, as far as their segment goes, end before each unit behind them
+pub run_before : (n u w units end : ℕ) → 0 < n → u + units ≤ w → end ≤ unit_at n u + unit_size * units → end ≤ segment_end n u
+    → end ≤ unit_at n w
+run_before n u w units end some l run segment =
     let b = in_segment n w some in
     let e = segment_ends n u in
     let p = placed n u some in
     let q = placed n w some in
     ⊎_elim
-    (λ less. let s = segment_after n (u / n) (w / n) less in omega (arith, ends, e, s, b.unit_from))
+    (λ less. let s = segment_after n (u / n) (w / n) less in omega (arith, e, s, b.unit_from))
     (λ other. ⊎_elim
     (λ more. absurd (let s = product_step n (w / n) (u / n) more in omega (arith, p.whole, q.whole, q.below, s)))
     (λ none.
@@ -127,6 +128,10 @@ runs_apart n u w units some ends l =
     omega (arith, p.whole, q.whole, first, at))
     (cases_lt (w / n) (u / n)))
     (cases_lt (u / n) (w / n))
+
+-- runs that do not meet have no byte in common
+pub runs_apart : (n u w units : ℕ) → 0 < n → EndsInSegment n u units → u + units ≤ w → unit_at n u + unit_size * units ≤ unit_at n w
+runs_apart n u w units some ends l = run_before n u w units (unit_at n u + unit_size * units) some l (omega arith) ends
 
 -- a run of units that begins at a multiple of their number ends in its segment, where that number parts a segment
 aligned_ends : (n u units : ℕ) → 0 < n → 0 < units → n % units ≡ 0 → u % units ≡ 0 → EndsInSegment n u units

@@ -12,6 +12,7 @@ pub mod Gates
 pub mod Stands
 pub mod Images
 pub mod GateWrites
+pub mod BodyWrites
 -- ---- lemmas, for the crates above too
 pub mod LayoutLaws
 -- ---- what worked rows look into

@@ -6,6 +6,9 @@ ghost use Rattle.file_model.specs.declared.head.Head.{Head};
 ghost use Rattle.file_model.specs.Layout.{page_size, gate_at, open_byte, closed_byte, is_open_at};
 ghost use Rattle.file_model.specs.View.{units_in, view};
 ghost use Rattle.file_model.specs.Gates.{with_gates, OpenBetween, is_among, opened, closed};
+ghost use Rattle.file_model.specs.Header.{located};
+ghost use Rattle.file_model.specs.Images.{ImagesAgree};
+ghost use Rattle.file_model.specs.BodyWrites.{Body, body_writes, MayWrite};
 ghost use Rattle.file_model.specs.GateWrites.{gate_writes, AreWhole, AreOpen, AreClosed, OnlyGatesDiffer};
 
 /// Torn writes of gates change no others and nothing else: of closed gates some are open then, of open ones some still are,
@@ -31,4 +34,10 @@ pub fn written_gates_are_open_or_closed()
     ensures closed { (per_segment : ℕ) (us image : List ℕ) (u : ℕ) → 0 < per_segment → AreWhole per_segment us image
         → is_open_at (with_writes (gate_writes per_segment closed_byte us) image) (gate_at per_segment u)
         ≡ closed us (λ w. is_open_at image (gate_at per_segment w)) u }
+{}
+
+/// Torn writes of bodies to runs that meet no block behind an open gate are not seen.
+pub fn torn_bodies_in_free_runs_are_not_seen()
+    ensures { (per_segment : ℕ) (h : Head) (bodies : List Body) (old new : List ℕ) → 0 < per_segment → MayWrite per_segment h bodies old
+        → DiffersIn (ranges_of (body_writes per_segment bodies)) old new → (located new ≡ located old) × ImagesAgree per_segment h old new }
 {}

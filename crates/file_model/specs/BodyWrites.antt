@@ -1,0 +1,67 @@
+-- New blocks on their way into a file: their bytes, what stands then, and what their writes leave alone. This project's own.
+use Rattle.std.specs.Prelude.{◌≡◌, ◌≤◌, ◌<◌, ◌⊎◌, ℕ, ◌+◌, ◌^◌, List, [], ◌∷◌, ◌++◌, map, length, Ok}
+use Rattle.byteorder.specs.Endian.{big_bytes}
+use Rattle.host_model.specs.Writes.{Write}
+use Rattle.file_model.specs.declared.head.Head.{Head}
+use Rattle.file_model.specs.Layout.{page_size, unit_at, segment_end, run_size}
+use Rattle.file_model.specs.LayoutLaws.{EndsInSegment}
+use Rattle.file_model.specs.Block.{Block, standing}
+use Rattle.file_model.specs.View.{Units, units_in}
+use Rattle.file_model.specs.Gates.{HaveBlocks, StandsOpen}
+
+-- ---- the bytes of a block
+
+-- the head: the exponent, three zeros and the length of the payload
+abbrev pub head_bytes : ℕ → ℕ → List ℕ
+head_bytes exp count = exp ∷ 0 ∷ 0 ∷ 0 ∷ big_bytes 4 count
+
+abbrev pub block_bytes : ℕ → List ℕ → List ℕ
+block_bytes exp payload = head_bytes exp (length payload) ++ payload
+
+-- ---- bodies
+
+-- the bytes of a new block, and the run of 2 ^ exp units that it is written to
+pub record Body : Type 0 where
+  pub unit : ℕ
+  pub exp : ℕ
+  pub bytes : List ℕ
+
+abbrev pub body_write : ℕ → Body → Write
+body_write per_segment b = record { at = unit_at per_segment b.unit; bytes = b.bytes }
+
+abbrev pub body_writes : ℕ → List Body → List Write
+body_writes per_segment bodies = map (body_write per_segment) bodies
+
+-- a body has room in its run, which lies in one segment that is whole in the image
+pub record HasRoom (per_segment : ℕ) (image : List ℕ) (b : Body) : Type 0 where
+  pub fits : length b.bytes ≤ run_size b.exp
+  pub ends : EndsInSegment per_segment b.unit (2 ^ b.exp)
+  pub whole : segment_end per_segment b.unit ≤ length image
+
+-- the run of a body meets that of no block at an open unit
+abbrev pub MeetsNone : Units → Body → Type 0
+MeetsNone units b = (u : ℕ) (t : Block) → StandsOpen units.is_open units u t → (u + 2 ^ t.exp ≤ b.unit) ⊎ (b.unit + 2 ^ b.exp ≤ u)
+
+abbrev pub Each : (Body → Type 0) → List Body → Type 0
+Each P [] = Unit {0}
+Each P (b ∷ bs) = P b × Each P bs
+
+-- Bodies may be written to an image, seen with a header: they have room, each open unit has a block, and no body meets one.
+pub record MayWrite (per_segment : ℕ) (h : Head) (bodies : List Body) (image : List ℕ) : Type 0 where
+  pub page : page_size ≤ length image
+  pub room : Each (HasRoom per_segment image) bodies
+  pub blocks : HaveBlocks (units_in per_segment h image).is_open (units_in per_segment h image)
+  pub free : Each (MeetsNone (units_in per_segment h image)) bodies
+
+-- no two runs of bodies meet
+abbrev pub RunsApart : Body → Body → Type 0
+RunsApart b c = (b.unit + 2 ^ b.exp ≤ c.unit) ⊎ (c.unit + 2 ^ c.exp ≤ b.unit)
+
+abbrev pub AllApart : List Body → Type 0
+AllApart [] = Unit {0}
+AllApart (b ∷ bs) = Each (RunsApart b) bs × AllApart bs
+
+-- a body whose bytes are those of a block of its run, whatever follows them
+pub record IsPacked (per_segment : ℕ) (h : Head) (b : Body) (t : Block) : Type 0 where
+  pub stands : (rest : List ℕ) → standing per_segment h.kind h.keypos b.unit (b.bytes ++ rest) ≡ Ok t
+  pub exp : t.exp ≡ b.exp
