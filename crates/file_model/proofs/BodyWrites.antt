@@ -1,13 +1,14 @@
 -- What torn and whole writes of bodies leave of an image.
 use Rattle.std.proofs.Common.{◌≡◌, ◌≤◌, ◌<◌, ◌⊎◌, inl, inr, ⊎_elim, ℕ, zero, suc, ◌+◌, ◌-◌, ◌*◌, ◌/◌, ◌%◌, ◌^◌, Bool, true, false, cond, ◌==◌, List, [], ◌∷◌, ◌++◌, length, map, take, drop, get_or, Option, Some, None, Ok, refl, sym, ap, ◌∙◌, subst, arith, slice_get, slice_range, length-take, length-drop}
 use Rattle.std.specs.Prelude.{min}
-use Rattle.std.proofs.Math.Seq.{take-take}
+use Rattle.std.specs.List.{AllByRecursion}
+use Rattle.std.proofs.Math.Seq.{take-add}
 use Rattle.std.proofs.lemmas.Bool.{cases_lt, or_from}
-use Rattle.std.proofs.lemmas.List.{ext_get_or, get_or-take, get_or-drop}
+use Rattle.std.proofs.lemmas.List.{ext_get_or, get_or-take, get_or-drop, drop-drop}
 use Rattle.host_model.specs.Disk.{Range, range, in_doubt, is_in, DiffersIn}
-use Rattle.host_model.specs.Torn.{outside_ranges, is_in-below, is_in-above, same_at}
-use Rattle.host_model.specs.Writes.{Write, end_of, range_of, ranges_of, with_writes, LieInside, BeginInside, IsApart, AreApart, ReadBack}
-use Rattle.host_model.specs.WritesLaws.{length_kept}
+use Rattle.host_model.specs.Torn.{outside_ranges, is_in-below, is_in-above, same_at, length-written_at}
+use Rattle.host_model.specs.Writes.{Write, end_of, range_of, ranges_of, with_write, with_writes, LieInside, BeginInside, IsApart, AreApart, ReadBack}
+use Rattle.host_model.specs.WritesLaws.{length_kept, ReadBack-writes}
 use Rattle.term_model.specs.declared.kind.Kind.{Kind}
 use Rattle.file_model.specs.declared.head.Head.{Head}
 use Rattle.file_model.specs.Layout.{page_size, unit_size, run_size, gate_at, unit_at, segment_at, segment_end, open_byte, is_open_at, page_of, unit_bytes}
@@ -17,7 +18,7 @@ use Rattle.file_model.specs.Block.{Block, BlockHead, head_size, block_head, stan
 use Rattle.file_model.specs.View.{Units, units_in}
 use Rattle.file_model.specs.Gates.{StandsOpen, HaveBlocks}
 use Rattle.file_model.specs.Images.{judged_by_head, judged_size, ImagesAgree}
-use Rattle.file_model.specs.BodyWrites.{Body, body_write, body_writes, HasRoom, MeetsNone, Each, MayWrite}
+use Rattle.file_model.specs.BodyWrites.{Body, body_write, body_writes, HasRoom, MeetsNone, RunsApart, Pairs, MayWrite, IsPacked, StandsPacked}
 use Rattle.file_model.proofs.Local.{judged_fits}
 use Rattle.file_model.proofs.GateWrites.{same_index, located_same, count_same, unit_inside}
 
@@ -52,7 +53,7 @@ page_off n b k some l = let i = in_segment n b.unit some in is_in-below (range_o
 
 -- ---- of all bodies
 
-gates_off : (n : ℕ) (image : List ℕ) (bodies : List Body) (u : ℕ) → 0 < n → Each (HasRoom n image) bodies
+gates_off : (n : ℕ) (image : List ℕ) (bodies : List Body) (u : ℕ) → 0 < n → AllByRecursion (HasRoom n image) bodies
     → in_doubt (ranges_of (body_writes n bodies)) (gate_at n u) ≡ false
 gates_off n image [] u some room = refl
 gates_off n image (b ∷ bs) u some room = or_from _ _ (gate_off n image u b some room.0) (gates_off n image bs u some room.1)
@@ -61,15 +62,15 @@ pages_off : (n : ℕ) (bodies : List Body) (k : ℕ) → 0 < n → k < page_size
 pages_off n [] k some l = refl
 pages_off n (b ∷ bs) k some l = or_from _ _ (page_off n b k some l) (pages_off n bs k some l)
 
-blocks_off : (n : ℕ) (image : List ℕ) (bodies : List Body) (units : Units) (u : ℕ) (t : Block) (k : ℕ) → 0 < n → Each (HasRoom n image) bodies
-    → Each (MeetsNone units) bodies → StandsOpen units.is_open units u t → unit_at n u ≤ k → k < unit_at n u + run_size t.exp → k < segment_end n u
+blocks_off : (n : ℕ) (image : List ℕ) (bodies : List Body) (units : Units) (u : ℕ) (t : Block) (k : ℕ) → 0 < n → AllByRecursion (HasRoom n image) bodies
+    → AllByRecursion (MeetsNone units) bodies → StandsOpen units.is_open units u t → unit_at n u ≤ k → k < unit_at n u + run_size t.exp → k < segment_end n u
     → in_doubt (ranges_of (body_writes n bodies)) k ≡ false
 blocks_off n image [] units u t k some room free there a b c = refl
 blocks_off n image (x ∷ xs) units u t k some room free there a b c = or_from _ _
     (run_off n image u (2 ^ t.exp) x k some room.0 (free.0 u t there) a b c)
     (blocks_off n image xs units u t k some room.1 free.1 there a b c)
 
-pub bodies_inside : (n : ℕ) (image : List ℕ) (bodies : List Body) → Each (HasRoom n image) bodies → LieInside (body_writes n bodies) image
+pub bodies_inside : (n : ℕ) (image : List ℕ) (bodies : List Body) → AllByRecursion (HasRoom n image) bodies → LieInside (body_writes n bodies) image
 bodies_inside n image [] room = tt
 bodies_inside n image (b ∷ bs) room = (
   (let e = body_end n image b room.0 in let w = room.0.whole in omega arith),
@@ -91,6 +92,14 @@ first_bytes ranges a c m old new d long free =
     get_or-take m (take n (drop a new)) k 0 one ∙ get_or-take n (drop a new) k 0 two ∙ get_or-drop a new k 0 ∙ same.1
     ∙ sym (get_or-take m (take n (drop a old)) k 0 one ∙ get_or-take n (drop a old) k 0 two ∙ get_or-drop a old k 0))
 
+-- a part of a list in two
+slice_join : (xs : List ℕ) (a b c : ℕ) → a ≤ b → b ≤ c → slice_range xs a c ≡ slice_range xs a b ++ slice_range xs b c
+slice_join xs a b c l m =
+    let sum : c - a ≡ (b - a) + (c - b) = omega arith in
+    let back : a + (b - a) ≡ b = omega arith in
+    ap (λ n. take n (drop a xs)) sum ∙ take-add (b - a) (c - b) (drop a xs)
+    ∙ ap (λ ys. take (b - a) (drop a xs) ++ take (c - b) ys) (drop-drop (b - a) a xs ∙ ap (λ n. drop n xs) back)
+
 -- ---- torn
 
 pub bodies_torn : (n : ℕ) (h : Head) (bodies : List Body) (old new : List ℕ) → 0 < n → MayWrite n h bodies old
@@ -111,3 +120,58 @@ bodies_torn n h bodies old new some may d =
             (λ k a b c. blocks_off n old bodies (units_in n h old) u t.0 k some may.room may.free there a (omega (arith, fits)) c);
       },
     )
+
+-- ---- whole
+
+with_same_length : (ws : List Write) (old new : List ℕ) → length new ≡ length old → LieInside ws old → LieInside ws new
+with_same_length [] old new long inside = tt
+with_same_length (w ∷ ws) old new long inside = (let l = inside.0 in omega arith, with_same_length ws old new long inside.1)
+
+-- writes that end inside a file begin inside it
+pub begin_inside : (ws : List Write) (file : List ℕ) → LieInside ws file → BeginInside ws file
+begin_inside [] file inside = tt
+begin_inside (w ∷ ws) file inside =
+    let first = inside.0 in
+    let long : length (with_write file w) ≡ length file = let l = length-written_at w.at w.bytes file (omega arith) in omega arith in
+    (omega arith, begin_inside ws (with_write file w) (with_same_length ws file (with_write file w) long inside.1))
+
+writes_apart : (n : ℕ) (image : List ℕ) (b c : Body) → 0 < n → HasRoom n image b → HasRoom n image c → RunsApart b c
+    → (end_of (body_write n b) ≤ (body_write n c).at) ⊎ (end_of (body_write n c) ≤ (body_write n b).at)
+writes_apart n image b c some rb rc apart = ⊎_elim
+    (λ l. let e = runs_apart n b.unit c.unit (2 ^ b.exp) some rb.ends l in inl (omega (arith, rb.fits, e)))
+    (λ l. let e = runs_apart n c.unit b.unit (2 ^ c.exp) some rc.ends l in inr (omega (arith, rc.fits, e)))
+    apart
+
+apart_from : (n : ℕ) (image : List ℕ) (b : Body) (bs : List Body) → 0 < n → HasRoom n image b → AllByRecursion (HasRoom n image) bs
+    → AllByRecursion (RunsApart b) bs → IsApart (body_write n b) (body_writes n bs)
+apart_from n image b [] some own room apart = tt
+apart_from n image b (c ∷ cs) some own room apart =
+    (writes_apart n image b c some own room.0 apart.0, apart_from n image b cs some own room.1 apart.1)
+
+all_apart : (n : ℕ) (image : List ℕ) (bs : List Body) → 0 < n → AllByRecursion (HasRoom n image) bs → Pairs RunsApart bs → AreApart (body_writes n bs)
+all_apart n image [] some room apart = tt
+all_apart n image (b ∷ bs) some room apart = (apart_from n image b bs some room.0 room.1 apart.0, all_apart n image bs some room.1 apart.1)
+
+-- a body that is read back stands at the front of its unit
+body_in_front : (n : ℕ) (old new : List ℕ) (b : Body) → HasRoom n old b
+    → slice_range new (unit_at n b.unit) (end_of (body_write n b)) ≡ b.bytes
+    → unit_bytes n new b.unit ≡ b.bytes ++ slice_range new (end_of (body_write n b)) (segment_end n b.unit)
+body_in_front n old new b room read =
+    let e = body_end n old b room in
+    slice_join new (unit_at n b.unit) (end_of (body_write n b)) (segment_end n b.unit) (omega arith) e
+    ∙ ap (λ bytes. bytes ++ slice_range new (end_of (body_write n b)) (segment_end n b.unit)) read
+
+all_stand : (n : ℕ) (h : Head) (old new : List ℕ) (bs : List Body) → AllByRecursion (HasRoom n old) bs → ReadBack (body_writes n bs) new
+    → AllByRecursion (StandsPacked n h new) bs
+all_stand n h old new [] room read = tt
+all_stand n h old new (b ∷ bs) room read = (
+  (λ t packed. ap (standing n h.kind h.keypos b.unit) (body_in_front n old new b room.0 read.0)
+      ∙ packed.stands (slice_range new (end_of (body_write n b)) (segment_end n b.unit))),
+  all_stand n h old new bs room.1 read.1,
+)
+
+pub bodies_stand : (n : ℕ) (h : Head) (bodies : List Body) (old : List ℕ) → 0 < n → AllByRecursion (HasRoom n old) bodies → Pairs RunsApart bodies
+    → AllByRecursion (StandsPacked n h (with_writes (body_writes n bodies) old)) bodies
+bodies_stand n h bodies old some room apart =
+    all_stand n h old (with_writes (body_writes n bodies) old) bodies room
+    (ReadBack-writes (body_writes n bodies) old (all_apart n old bodies some room apart) (begin_inside (body_writes n bodies) old (bodies_inside n old bodies room)))

@@ -12,3 +12,4 @@ pub mod Grown
 pub mod NoRejects
 pub mod GateWrites
 pub mod BodyWrites
+pub mod Packed

@@ -1,14 +1,18 @@
 //! Laws of what writes leave of a file, as contracts of functions that do nothing.
-ghost use Rattle.std.specs.Prelude.{◌≡◌, ◌≤◌, ◌<◌, ℕ, List, length};
+ghost use Rattle.std.specs.Prelude.{◌≡◌, ◌≤◌, ◌<◌, ℕ, List, ◌++◌, length, Ok};
+ghost use Rattle.std.specs.List.{AllByRecursion};
 ghost use Rattle.host_model.specs.Disk.{DiffersIn};
 ghost use Rattle.host_model.specs.Writes.{ranges_of, with_writes};
+ghost use Rattle.term_model.specs.TermValue.{TermValue};
+ghost use Rattle.term_model.specs.declared.kind.Kind.{Kind};
 ghost use Rattle.file_model.specs.declared.head.Head.{Head};
 ghost use Rattle.file_model.specs.Layout.{page_size, gate_at, open_byte, closed_byte, is_open_at};
 ghost use Rattle.file_model.specs.View.{units_in, view};
 ghost use Rattle.file_model.specs.Gates.{with_gates, OpenBetween, is_among, opened, closed};
+ghost use Rattle.file_model.specs.Block.{standing};
 ghost use Rattle.file_model.specs.Header.{located};
 ghost use Rattle.file_model.specs.Images.{ImagesAgree};
-ghost use Rattle.file_model.specs.BodyWrites.{Body, body_writes, MayWrite};
+ghost use Rattle.file_model.specs.BodyWrites.{Body, body_writes, HasRoom, Pairs, RunsApart, StandsPacked, MayWrite, IsPayload, block_bytes, block_at};
 ghost use Rattle.file_model.specs.GateWrites.{gate_writes, AreWhole, AreOpen, AreClosed, OnlyGatesDiffer};
 
 /// Torn writes of gates change no others and nothing else: of closed gates some are open then, of open ones some still are,
@@ -40,4 +44,18 @@ pub fn written_gates_are_open_or_closed()
 pub fn torn_bodies_in_free_runs_are_not_seen()
     ensures { (per_segment : ℕ) (h : Head) (bodies : List Body) (old new : List ℕ) → 0 < per_segment → MayWrite per_segment h bodies old
         → DiffersIn (ranges_of (body_writes per_segment bodies)) old new → (located new ≡ located old) × ImagesAgree per_segment h old new }
+{}
+
+/// Bodies that were written to runs that do not meet stand there.
+pub fn written_bodies_stand()
+    ensures { (per_segment : ℕ) (h : Head) (bodies : List Body) (image : List ℕ) → 0 < per_segment
+        → AllByRecursion (HasRoom per_segment image) bodies → Pairs RunsApart bodies
+        → AllByRecursion (StandsPacked per_segment h (with_writes (body_writes per_segment bodies) image)) bodies }
+{}
+
+/// The bytes of a block stand as that block at each unit that they are aligned for, whatever follows them.
+pub fn a_block_that_was_written_stands()
+    ensures { (per_segment : ℕ) (kind : Kind) (keypos unit exp : ℕ) (payload rest : List ℕ) (k : TermValue)
+        → IsPayload per_segment kind keypos unit exp payload k
+        → standing per_segment kind keypos unit (block_bytes exp payload ++ rest) ≡ Ok (block_at unit exp payload k) }
 {}
