@@ -65,7 +65,7 @@ gate_inside n u image some whole =
     let e = segment_ends n u in
     omega (arith, a.gate_below, a.unit_from, a.unit_ends)
 
-lie_inside : (n byte : ℕ) (us image : List ℕ) → 0 < n → AreWhole n us image → LieInside (gate_writes n byte us) image
+pub lie_inside : (n byte : ℕ) (us image : List ℕ) → 0 < n → AreWhole n us image → LieInside (gate_writes n byte us) image
 lie_inside n byte [] image some whole = tt
 lie_inside n byte (u ∷ us) image some whole = (
   gate_inside n u image some (whole u (here_among u us)),

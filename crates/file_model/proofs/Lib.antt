@@ -12,4 +12,5 @@ pub mod Grown
 pub mod NoRejects
 pub mod GateWrites
 pub mod BodyWrites
+pub mod Flush
 pub mod Packed

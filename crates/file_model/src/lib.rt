@@ -11,6 +11,7 @@ pub use head::{FileState, Head, Located, Unreadable};
 pub use reject::{Reason, Reject};
 
 mod entry;
+pub mod flush_laws;
 mod head;
 pub mod laws;
 mod reject;
