@@ -39,6 +39,8 @@ pub record IsFlushable (per_segment : ℕ) (h : Head) (bodies : List Body) (olds
   -- no two new blocks meet or share a key
   pub apart : Pairs RunsApart bodies
   pub keys : Pairs (OtherKeys per_segment h) bodies
+  -- the units of the blocks that go are open
+  pub counted : (u : ℕ) → is_among olds u ≡ true → u < (units_in per_segment h image).count
   pub go : AreOpen per_segment olds image
 
 -- ---- the images between its steps
