@@ -13,6 +13,7 @@ pub mod Stands
 pub mod Images
 pub mod GateWrites
 pub mod BodyWrites
+pub mod Free
 pub mod Flush
 -- ---- lemmas, for the crates above too
 pub mod LayoutLaws

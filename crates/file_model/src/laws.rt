@@ -8,6 +8,8 @@ ghost use Rattle.file_model.specs.declared.reject.Reason.{Reason};
 ghost use Rattle.etf_model.specs.Spelling.{Spells};
 ghost use Rattle.file_model.specs.declared.head.FileState.TheVariants.{Dirty};
 ghost use Rattle.file_model.specs.Header.{is_allowed, body_of, head_in, segments_in};
+ghost use Rattle.file_model.specs.Free.{IsFreeIn};
+ghost use Rattle.file_model.specs.BodyWrites.{Body, MeetsNone};
 ghost use Rattle.file_model.specs.Fit.{has_no_rejects, is_sound, needs_repair};
 ghost use Rattle.file_model.specs.Layout.{is_open_at, unit_size, gate_at, unit_at, segment_end, whole_segments};
 ghost use Rattle.file_model.specs.LayoutLaws.{EndsInSegment};
@@ -116,6 +118,15 @@ pub fn more_segments_with_closed_gates_add_nothing()
 pub fn open_gates_stand_at_taken_units_alone_where_nothing_is_rejected()
     ensures none { (h : Head) (units : Units) → AreRead h units → has_no_rejects (view h units) ≡ true → OpenAtTaken units }
     ensures only { (h : Head) (units : Units) → AreRead h units → OpenAtTaken units → has_no_rejects (view h units) ≡ true }
+{}
+
+/// Where open gates stand at taken units alone, a run that is free meets no block behind an open gate; and the gates of a
+/// free run are closed.
+pub fn a_free_run_meets_no_block_and_has_no_open_gate()
+    ensures meets_none { (h : Head) (units : Units) (b : Body) → AreRead h units → OpenAtTaken units → IsFreeIn (view h units) b.unit b.exp
+        → MeetsNone units b }
+    ensures shut { (h : Head) (units : Units) (unit exp u : ℕ) → IsFreeIn (view h units) unit exp → unit ≤ u → u < unit + 2 ^ exp
+        → u < units.count → units.is_open u ≡ false }
 {}
 
 /// A file with a header that can be read is sound or needs repair, and a dirty one is both.

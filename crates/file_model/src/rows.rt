@@ -6,7 +6,7 @@ ghost use Rattle.table_model.specs.Table.{objects_of};
 ghost use Rattle.file_model.specs.declared.head.Unreadable.TheVariants.{NotDets, Version};
 ghost use Rattle.file_model.specs.declared.reject.Reason.TheVariants.{BadHead, NotAligned, BadPayload, Overlaps, KeyTaken};
 ghost use Rattle.file_model.specs.Layout.{segment_size, segment_at, gate_at, unit_at, segment_end, run_size, whole_segments};
-ghost use Rattle.file_model.specs.Header.{body_of, head_in, head_of, head_of_page, segments_in};
+ghost use Rattle.file_model.specs.Header.{body_of, head_in, head_of, head_of_page, segments_in, located_at};
 ghost use Rattle.file_model.specs.Block.{standing, one_key};
 ghost use Rattle.file_model.specs.View.{view, units_in};
 ghost use Rattle.file_model.specs.Taken.{taken, rejects, table_of, entries};
@@ -51,6 +51,16 @@ pub fn the_current_copy_is_the_first_with_an_open_gate()
     ensures second { head_of_page (page_with 0 closed_body 165 dirty_body) ≡ Ok dirty_head }
     ensures other_byte { head_of_page (page_with 164 closed_body 165 dirty_body) ≡ Ok dirty_head }
     ensures none { head_of_page (page_with 0 closed_body 0 dirty_body) ≡ Err NotDets }
+{}
+
+/// Where a header was found, in a file that has its segment and in one that lacks a byte of it.
+pub fn a_header_is_located_with_its_copy_and_its_whole_segments()
+    ensures first { located_at (page_with 165 closed_body 0 dirty_body) 270336 (Some false) (Ok closed_head)
+        ≡ Ok (record { head = closed_head; second = false; other_gate = false; whole = 1 }) }
+    ensures second { located_at (page_with 0 closed_body 165 dirty_body) 270336 (Some true) (Ok dirty_head)
+        ≡ Ok (record { head = dirty_head; second = true; other_gate = false; whole = 1 }) }
+    ensures both { located_at (page_with 165 closed_body 165 dirty_body) 270335 (Some false) (Ok closed_head)
+        ≡ Ok (record { head = closed_head; second = false; other_gate = true; whole = 0 }) }
 {}
 
 /// A body that does not begin as one is of no table's file, and one of another version is told by it, whatever its other
@@ -103,6 +113,7 @@ pub fn a_segment_that_is_cut_does_not_count()
     ensures page_alone { whole_segments 8 (replicate 4096 0) ≡ 0 }
     ensures no_page { whole_segments 8 [] ≡ 0 }
     ensures counted { segments_in 8 (record dirty_head { segments = 3 }) (small_file 0) ≡ 2 }
+    ensures counted_without_the_cut_one { segments_in 8 (record dirty_head { segments = 2 }) (small_file 1) ≡ 1 }
     ensures counted_by_the_header { segments_in 8 dirty_head (small_file 0) ≡ 1 }
 {}
 
