@@ -14,3 +14,4 @@ pub mod GateWrites
 pub mod BodyWrites
 pub mod Flush
 pub mod Packed
+pub mod Outside

@@ -1,16 +1,16 @@
 //! Laws of what writes leave of a file, as contracts of functions that do nothing.
-ghost use Rattle.std.specs.Prelude.{◌≡◌, ◌≤◌, ◌<◌, ℕ, List, ◌++◌, length, Ok};
+ghost use Rattle.std.specs.Prelude.{◌≡◌, ◌≤◌, ◌<◌, ℕ, false, List, ◌++◌, length, Ok};
 ghost use Rattle.std.specs.List.{AllByRecursion};
-ghost use Rattle.host_model.specs.Disk.{DiffersIn};
+ghost use Rattle.host_model.specs.Disk.{Range, in_doubt, DiffersIn};
 ghost use Rattle.host_model.specs.Writes.{ranges_of, with_writes};
 ghost use Rattle.term_model.specs.TermValue.{TermValue};
 ghost use Rattle.term_model.specs.declared.kind.Kind.{Kind};
 ghost use Rattle.file_model.specs.declared.head.Head.{Head};
-ghost use Rattle.file_model.specs.Layout.{page_size, gate_at, open_byte, closed_byte, is_open_at};
+ghost use Rattle.file_model.specs.Layout.{page_size, segment_at, page_of, whole_segments, gate_at, open_byte, closed_byte, is_open_at};
 ghost use Rattle.file_model.specs.View.{units_in, view};
 ghost use Rattle.file_model.specs.Gates.{with_gates, OpenBetween, is_among, opened, closed};
 ghost use Rattle.file_model.specs.Block.{standing};
-ghost use Rattle.file_model.specs.Header.{located};
+ghost use Rattle.file_model.specs.Header.{segments_in, head_of, located};
 ghost use Rattle.file_model.specs.Images.{ImagesAgree};
 ghost use Rattle.file_model.specs.BodyWrites.{Body, body_writes, HasRoom, Pairs, RunsApart, StandsPacked, MayWrite, IsPayload, block_bytes, block_at};
 ghost use Rattle.file_model.specs.GateWrites.{gate_writes, AreWhole, AreOpen, AreClosed, OnlyGatesDiffer};
@@ -58,4 +58,17 @@ pub fn a_block_that_was_written_stands()
     ensures { (per_segment : ℕ) (kind : Kind) (keypos unit exp : ℕ) (payload rest : List ℕ) (k : TermValue)
         → IsPayload per_segment kind keypos unit exp payload k
         → standing per_segment kind keypos unit (block_bytes exp payload ++ rest) ≡ Ok (block_at unit exp payload k) }
+{}
+
+/// What lies in the header's page or behind the segments that count is not seen by a header that counts as many segments
+/// before and after; and which header a file has depends on its page alone.
+pub fn what_lies_outside_the_segments_that_count_is_not_seen()
+    ensures seen { (per_segment : ℕ) (h : Head) (ranges : List Range) (old new : List ℕ) → 0 < per_segment → DiffersIn ranges old new
+        → segments_in per_segment h new ≡ segments_in per_segment h old
+        → ((k : ℕ) → page_size ≤ k → k < segment_at per_segment (segments_in per_segment h old) → in_doubt ranges k ≡ false)
+        → view h (units_in per_segment h new) ≡ view h (units_in per_segment h old) }
+    ensures counted { (per_segment : ℕ) (h : Head) (old new : List ℕ) → h.segments ≤ whole_segments per_segment old
+        → h.segments ≤ whole_segments per_segment new → segments_in per_segment h new ≡ segments_in per_segment h old }
+    ensures header { (old new : List ℕ) → page_size ≤ length old → page_size ≤ length new → page_of new ≡ page_of old
+        → head_of new ≡ head_of old }
 {}
