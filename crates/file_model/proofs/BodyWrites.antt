@@ -1,26 +1,25 @@
 -- What torn and whole writes of bodies leave of an image.
-use Rattle.std.proofs.Common.{◌≡◌, ◌≤◌, ◌<◌, ◌⊎◌, inl, inr, ⊎_elim, ℕ, zero, suc, ◌+◌, ◌-◌, ◌*◌, ◌/◌, ◌%◌, ◌^◌, Bool, true, false, cond, ◌==◌, List, [], ◌∷◌, ◌++◌, length, map, take, drop, get_or, Option, Some, None, Ok, refl, sym, ap, ◌∙◌, subst, arith, slice_get, slice_range, length-take, length-drop}
+use Rattle.std.proofs.Common.{◌≡◌, ◌≤◌, ◌<◌, ◌⊎◌, inl, inr, ⊎_elim, ℕ, ◌+◌, ◌-◌, ◌*◌, ◌^◌, false, ◌==◌, List, [], ◌∷◌, ◌++◌, length, take, drop, refl, sym, ap, ◌∙◌, arith, slice_range, length-take, length-drop}
 use Rattle.std.specs.Prelude.{min}
 use Rattle.std.specs.List.{AllByRecursion}
 use Rattle.std.proofs.Math.Seq.{take-add}
-use Rattle.std.proofs.lemmas.Bool.{cases_lt, or_from}
+use Rattle.std.proofs.lemmas.Bool.{or_from}
 use Rattle.std.proofs.lemmas.List.{ext_get_or, get_or-take, get_or-drop, drop-drop}
-use Rattle.host_model.specs.Disk.{Range, range, in_doubt, is_in, DiffersIn}
+use Rattle.host_model.specs.Disk.{Range, in_doubt, is_in, DiffersIn}
 use Rattle.host_model.specs.Torn.{outside_ranges, is_in-below, is_in-above, same_at, length-written_at}
 use Rattle.host_model.specs.Writes.{Write, end_of, range_of, ranges_of, with_write, with_writes, LieInside, BeginInside, IsApart, AreApart, ReadBack}
 use Rattle.host_model.specs.WritesLaws.{length_kept, ReadBack-writes}
-use Rattle.term_model.specs.declared.kind.Kind.{Kind}
 use Rattle.file_model.specs.declared.head.Head.{Head}
-use Rattle.file_model.specs.Layout.{page_size, unit_size, run_size, gate_at, unit_at, segment_at, segment_end, open_byte, is_open_at, page_of, unit_bytes}
+use Rattle.file_model.specs.Layout.{page_size, unit_size, run_size, gate_at, unit_at, segment_end, open_byte, page_of, unit_bytes}
 use Rattle.file_model.specs.LayoutLaws.{in_segment, gate_apart_from_unit, run_before, runs_apart}
-use Rattle.file_model.specs.Header.{head_of, located}
-use Rattle.file_model.specs.Block.{Block, BlockHead, head_size, block_head, standing, standing_with}
+use Rattle.file_model.specs.Header.{located}
+use Rattle.file_model.specs.Block.{Block, standing}
 use Rattle.file_model.specs.View.{Units, units_in}
-use Rattle.file_model.specs.Gates.{StandsOpen, HaveBlocks}
-use Rattle.file_model.specs.Images.{judged_by_head, judged_size, ImagesAgree}
-use Rattle.file_model.specs.BodyWrites.{Body, body_write, body_writes, HasRoom, MeetsNone, RunsApart, Pairs, MayWrite, IsPacked, StandsPacked}
+use Rattle.file_model.specs.Gates.{StandsOpen}
+use Rattle.file_model.specs.Images.{judged_size, ImagesAgree}
+use Rattle.file_model.specs.BodyWrites.{Body, body_write, body_writes, HasRoom, MeetsNone, RunsApart, Pairs, MayWrite, StandsPacked}
 use Rattle.file_model.proofs.Local.{judged_fits}
-use Rattle.file_model.proofs.GateWrites.{same_index, located_same, count_same, unit_inside}
+use Rattle.file_model.proofs.GateWrites.{same_index, located_same, count_same}
 
 -- ---- where the writes are
 

@@ -1,20 +1,20 @@
 -- What torn and whole writes of gates leave of an image.
-use Rattle.std.proofs.Common.{◌≡◌, ◌≤◌, ◌<◌, ◌⊎◌, inl, inr, ⊎_elim, ℕ, zero, suc, ◌+◌, ◌-◌, ◌*◌, Bool, true, false, cond, ◌&&◌, ◌||◌, ◌==◌, List, [], ◌∷◌, length, map, get_or, refl, sym, ap, ◌∙◌, subst, arith, slice_get, slice_range, slice_index}
+use Rattle.std.proofs.Common.{◌≡◌, ◌≤◌, ◌<◌, inl, inr, ⊎_elim, ℕ, ◌+◌, ◌-◌, Bool, true, false, cond, ◌&&◌, ◌||◌, ◌==◌, List, [], ◌∷◌, length, get_or, refl, sym, ap, ◌∙◌, subst, arith, slice_get, slice_index}
 use Rattle.std.specs.Prelude.{unwrap_or, ◌≢◌, not}
-use Rattle.std.proofs.lemmas.Bool.{cases_Bool, cases_lt, and_parts, both_ways, or_left, or_right, or_from, not-true, not_from_false, eq-eqb, eqb-true, eqb-false, and_right}
+use Rattle.std.proofs.lemmas.Bool.{cases_Bool, cases_lt, and_parts, both_ways, or_left, or_right, or_from, not-true, eq-eqb, eqb-true, eqb-false, and_right}
 use Rattle.std.proofs.lemmas.Option.{unwrap_or-slice_get}
 use Rattle.std.proofs.Math.Bool.{or-false, and-true}
-use Rattle.host_model.specs.Disk.{Range, range, in_doubt, is_in, written_at, DiffersIn}
+use Rattle.host_model.specs.Disk.{in_doubt, is_in, written_at, DiffersIn}
 use Rattle.host_model.specs.Torn.{outside_ranges, is_in-below, is_in-above, length-written_at, get_or-written_below, get_or-written_in, get_or-written_above}
-use Rattle.host_model.specs.Writes.{Write, end_of, range_of, ranges_of, with_writes, LieInside}
+use Rattle.host_model.specs.Writes.{range_of, ranges_of, with_writes, LieInside}
 use Rattle.host_model.specs.WritesLaws.{length_kept}
 use Rattle.file_model.specs.declared.head.Head.{Head}
-use Rattle.file_model.specs.Layout.{page_size, gate_at, unit_at, segment_at, segment_end, open_byte, closed_byte, is_open_at, page_of, unit_bytes, whole_segments}
+use Rattle.file_model.specs.Layout.{page_size, gate_at, unit_at, segment_end, open_byte, closed_byte, is_open_at, page_of}
 use Rattle.file_model.specs.LayoutLaws.{in_segment, gates_apart, gate_apart_from_unit, segment_ends, unit_whole}
 use Rattle.file_model.specs.Header.{segments_in, current_copy, head_of, located_at, located}
 use Rattle.file_model.specs.Block.{standing}
 use Rattle.file_model.specs.View.{units_in, view}
-use Rattle.file_model.specs.Gates.{Gates, with_gates, OpenBetween, is_among, opened, closed}
+use Rattle.file_model.specs.Gates.{with_gates, OpenBetween, is_among, opened, closed}
 use Rattle.file_model.specs.GateWrites.{gate_write, gate_writes, AreWhole, AreOpen, AreClosed, OnlyGatesDiffer}
 use Rattle.file_model.proofs.Seen.{view_same}
 

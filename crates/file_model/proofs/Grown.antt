@@ -1,5 +1,5 @@
 -- More segments, in which all gates are closed, add nothing.
-use Rattle.std.proofs.Common.{◌≡◌, ◌≤◌, ◌<◌, ℕ, ◌+◌, ◌*◌, false, List, [], refl, sym, ap, ◌∙◌, arith}
+use Rattle.std.proofs.Common.{◌≡◌, ◌≤◌, ◌<◌, ℕ, ◌*◌, false, List, [], ap, ◌∙◌, arith}
 use Rattle.std.proofs.lemmas.Nat.{mul-le}
 use Rattle.term_model.specs.declared.kind.Kind.{Kind}
 use Rattle.file_model.specs.declared.head.Head.{Head}

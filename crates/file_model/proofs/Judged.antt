@@ -1,5 +1,5 @@
 -- What the judgement on open units comes to.
-use Rattle.std.proofs.Common.{◌≡◌, inl, inr, List, [], ◌∷◌, find, Option, Some, None, Result, Ok, Err, refl, subst}
+use Rattle.std.proofs.Common.{◌≡◌, inl, inr, List, [], ◌∷◌, find, Option, Some, None, Ok, Err, refl, subst}
 use Rattle.file_model.specs.declared.reject.Reason.{Reason}
 use Rattle.file_model.specs.Block.{Block, Standing}
 use Rattle.file_model.specs.View.{OpenUnit, View}

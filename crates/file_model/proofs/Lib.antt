@@ -12,6 +12,8 @@ pub mod Grown
 pub mod NoRejects
 pub mod GateWrites
 pub mod BodyWrites
+pub mod Members
+pub mod FlushBlocks
 pub mod Flush
 pub mod Packed
 pub mod Outside

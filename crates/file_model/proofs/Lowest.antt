@@ -1,19 +1,19 @@
 -- Where no two blocks at open units meet, a key has the objects of its lowest one.
-use Rattle.std.proofs.Common.{◌≡◌, ◌≤◌, ◌<◌, ℕ, zero, suc, ◌+◌, ◌^◌, Bool, true, false, cond, ◌&&◌, nat_le, nat_lt, ⊎_elim, List, [], ◌∷◌, ◌++◌, filter, find, flat_map, Option, Some, None, Result, Ok, Err, refl, sym, ap, ◌∙◌, subst, arith, append-nil}
+use Rattle.std.proofs.Common.{◌≡◌, ◌≤◌, ◌<◌, ℕ, zero, suc, ◌+◌, ◌^◌, Bool, true, false, cond, ◌&&◌, nat_le, nat_lt, ⊎_elim, List, [], ◌∷◌, ◌++◌, filter, find, Option, Some, None, Ok, Err, refl, ap, ◌∙◌, subst, arith, append-nil}
 use Rattle.std.specs.List.{list_all, list_any}
 use Rattle.std.proofs.lemmas.Bool.{cases_Bool, and_right, le-ltb, or_left}
 use Rattle.std.proofs.lemmas.List.Elements.{filter-append}
 use Rattle.term_model.specs.TermValue.{TermValue}
 use Rattle.term_model.specs.Order.{is_same}
-use Rattle.term_model.specs.Same.{equal_from_same, same_self}
+use Rattle.term_model.specs.Same.{equal_from_same}
 use Rattle.term_model.specs.Sorted.{ascending}
 use Rattle.table_model.specs.Table.{has_key, objects_of}
 use Rattle.file_model.specs.declared.head.Head.{Head}
 use Rattle.file_model.specs.Block.{Block, Standing}
-use Rattle.file_model.specs.View.{Units, OpenUnit, with_unit, open_from, view}
-use Rattle.file_model.specs.Taken.{covers, block_has, by_key, by_cover, judged, taken_next, taken_above, objects_in, table_of}
-use Rattle.file_model.specs.Gates.{Gates, with_gates, IsRead, AreRead, StandsOpen, NoneMeet, standing_has, standing_objects, lowest_objects, table_with}
-use Rattle.file_model.proofs.OneKey.{HasOneKey, has_one_key, in_order_stays, filter_all, filter_other}
+use Rattle.file_model.specs.View.{Units, open_from}
+use Rattle.file_model.specs.Taken.{covers, block_has, by_key, taken_next, taken_above, objects_in}
+use Rattle.file_model.specs.Gates.{Gates, AreRead, StandsOpen, NoneMeet, standing_has, standing_objects, lowest_objects, table_with}
+use Rattle.file_model.proofs.OneKey.{has_one_key, in_order_stays, filter_all, filter_other}
 
 -- ---- lists and tests
 

@@ -1,5 +1,5 @@
 -- There are no rejects just where each open unit has a block, and these do not meet and share no key.
-use Rattle.std.proofs.Common.{◌≡◌, ◌≤◌, ◌<◌, ◌⊎◌, inl, inr, ⊎_elim, ℕ, zero, suc, ◌+◌, ◌^◌, Bool, true, false, ◌&&◌, nat_le, nat_lt, List, [], ◌∷◌, find, Option, Some, None, Result, Ok, Err, refl, sym, ap, ◌∙◌, subst, arith}
+use Rattle.std.proofs.Common.{◌≡◌, ◌≤◌, ◌<◌, ◌⊎◌, inl, inr, ⊎_elim, ℕ, zero, suc, ◌+◌, ◌^◌, Bool, true, false, nat_le, nat_lt, List, [], ◌∷◌, find, None, Ok, Err, refl, sym, ap, ◌∙◌, subst, arith}
 use Rattle.std.specs.List.{AllByRecursion}
 use Rattle.std.proofs.lemmas.Bool.{cases_Bool, cases_order, both_ways, and_cases, leb-false, ltb-false, and_right, le-ltb}
 use Rattle.term_model.specs.TermValue.{TermValue}
@@ -8,18 +8,15 @@ use Rattle.term_model.specs.Same.{equal_from_same, same_self}
 use Rattle.file_model.specs.declared.head.Head.{Head}
 use Rattle.file_model.specs.declared.reject.Reject.{Reject}
 use Rattle.file_model.specs.Block.{Block, Standing}
-use Rattle.file_model.specs.View.{Units, OpenUnit, with_unit, open_from, view}
+use Rattle.file_model.specs.View.{Units, with_unit, open_from, view}
 use Rattle.file_model.specs.Taken.{covers, block_has, judged, taken_above, taken, rejects_next, rejects_above, rejects}
 use Rattle.file_model.specs.Judgement.{IsTaken}
 use Rattle.file_model.specs.Fit.{are_none, has_no_rejects}
-use Rattle.file_model.specs.Gates.{Gates, IsRead, AreRead, StandsOpen, NoneMeet, NoneShareKeys, HaveBlocks, OpenAtTaken}
+use Rattle.file_model.specs.Gates.{Gates, AreRead, StandsOpen, OpenAtTaken}
 use Rattle.file_model.specs.BodyWrites.{Body, MeetsNone}
 use Rattle.file_model.specs.Free.{IsFreeIn}
+use Rattle.file_model.proofs.Members.{In, of_all}
 use Rattle.file_model.proofs.Judged.{is_taken, takes}
-
-abbrev In : Block → List Block → Type 0
-In b [] = ⊥
-In b (c ∷ cs) = (c ≡ b) ⊎ In b cs
 
 -- a block is covered by none of these and has the key of none
 abbrev IsClearOf : List Block → Block → Type 0
@@ -208,10 +205,6 @@ to_no_rejects h units read at_taken =
 
 -- ---- free runs
 
-of_taken : (P : Block → Type 0) (bs : List Block) (t : Block) → AllByRecursion P bs → In t bs → P t
-of_taken P [] t all a = absurd a
-of_taken P (b ∷ bs) t all a = ⊎_elim (λ here. subst P here all.0) (λ later. of_taken P bs t all.1 later) a
-
 -- an open unit is none of the run
 open_outside : (gates : Gates) (stands : ℕ → Standing) (P : ℕ → Type 0) (w n u : ℕ) → AllByRecursion (λ o. P o.unit) (open_from gates stands n u)
     → gates w ≡ true → u ≤ w → w < u + n → P w
@@ -240,7 +233,7 @@ free_meets_none h units b read at_taken free u t there =
     ⊎_elim
     (λ l. inl (omega arith))
     (λ l. inr (omega arith))
-    (of_taken (λ x. (x.unit + 2 ^ x.exp ≤ b.unit) ⊎ (b.unit + 2 ^ b.exp ≤ x.unit)) (taken (view h units)) t free.apart a)
+    (of_all (λ x. (x.unit + 2 ^ x.exp ≤ b.unit) ⊎ (b.unit + 2 ^ b.exp ≤ x.unit)) (taken (view h units)) t free.apart a)
 
 -- and its gates are closed
 pub free_is_shut : (h : Head) (units : Units) (unit exp w : ℕ) → IsFreeIn (view h units) unit exp → unit ≤ w → w < unit + 2 ^ exp → w < units.count

@@ -1,16 +1,14 @@
 -- What lies outside the segments that count is not seen, and a header depends on its page alone.
-use Rattle.std.proofs.Common.{◌≡◌, ◌≤◌, ◌<◌, ℕ, ◌+◌, ◌-◌, ◌*◌, ◌/◌, Bool, true, false, cond, ◌==◌, List, length, refl, sym, ap, ◌∙◌, arith, slice_range}
-use Rattle.std.specs.Prelude.{min}
+use Rattle.std.proofs.Common.{◌≡◌, ◌≤◌, ◌<◌, ℕ, ◌*◌, ◌/◌, false, ◌==◌, List, length, ap, arith}
 use Rattle.std.proofs.lemmas.Bool.{le-ltb}
 use Rattle.host_model.specs.Disk.{Range, in_doubt, DiffersIn}
 use Rattle.host_model.specs.Torn.{outside_ranges}
 use Rattle.file_model.specs.declared.head.Head.{Head}
-use Rattle.file_model.specs.Layout.{page_size, segment_size, segment_at, gate_at, unit_at, segment_end, open_byte, page_of, whole_segments}
+use Rattle.file_model.specs.Layout.{page_size, segment_at, gate_at, unit_at, segment_end, open_byte, page_of, whole_segments}
 use Rattle.file_model.specs.LayoutLaws.{in_segment, segment_ends, segment_after, segment_below}
 use Rattle.file_model.specs.Header.{segments_in, head_of_page, head_of}
 use Rattle.file_model.specs.Block.{standing}
 use Rattle.file_model.specs.View.{units_in, view}
-use Rattle.file_model.specs.Gates.{SeenAlike}
 use Rattle.file_model.proofs.Seen.{view_same}
 use Rattle.file_model.proofs.GateWrites.{same_index, unit_inside}
 

@@ -1,5 +1,5 @@
 -- A block that was written stands, whatever follows it.
-use Rattle.std.proofs.Common.{◌≡◌, ◌≤◌, ◌<◌, ℕ, ◌-◌, ◌%◌, ◌^◌, Bool, true, false, cond, ◌&&◌, ◌==◌, nat_le, List, [], ◌∷◌, ◌++◌, length, take, drop, Option, Some, None, Ok, Err, refl, sym, ap, ◌∙◌, arith}
+use Rattle.std.proofs.Common.{◌≡◌, ◌≤◌, ◌<◌, ℕ, ◌-◌, ◌%◌, ◌^◌, true, cond, List, [], ◌++◌, length, take, Option, Some, None, Ok, Err, ap, ◌∙◌}
 use Rattle.std.proofs.Math.Seq.{take-append_seam}
 use Rattle.std.proofs.lemmas.Bool.{and_from, le-leb, eq-eqb}
 use Rattle.byteorder.specs.Endian.{big_number, big_bytes}
@@ -8,7 +8,7 @@ use Rattle.term_model.specs.TermValue.{TermValue}
 use Rattle.term_model.specs.declared.kind.Kind.{Kind}
 use Rattle.file_model.specs.declared.reject.Reason.TheVariants.{NotAligned}
 use Rattle.file_model.specs.Layout.{run_size}
-use Rattle.file_model.specs.Block.{Block, Standing, BlockHead, head_size, is_well_formed, if_well_formed, block_head, term_in, proper_elements, one_key, block_with, block_of, payload_in, standing_with, standing}
+use Rattle.file_model.specs.Block.{BlockHead, head_size, is_well_formed, if_well_formed, block_head, term_in, proper_elements, one_key, block_with, block_of, payload_in, standing_with, standing}
 use Rattle.file_model.specs.BodyWrites.{head_bytes, block_bytes, IsPayload, block_at}
 
 abbrev head_of_block : ℕ → ℕ → BlockHead

@@ -1,5 +1,5 @@
 -- The term of a payload is the one that all of its bytes spell.
-use Rattle.std.proofs.Common.{◌≡◌, ℕ, List, [], ◌∷◌, ◌++◌, Option, Some, None, Ok, Err, refl, sym, ap, ◌∙◌, subst, append-nil}
+use Rattle.std.proofs.Common.{◌≡◌, ℕ, List, [], ◌∷◌, ◌++◌, Some, Ok, Err, refl, sym, ap, ◌∙◌, subst, append-nil}
 use Rattle.term_model.specs.TermValue.{TermValue}
 use Rattle.etf_model.specs.Format.{Position, Reading}
 use Rattle.etf_model.specs.Spelling.{spelling, Spells}

@@ -1,13 +1,13 @@
 -- Closing the gates of rejects leaves the taken blocks.
-use Rattle.std.proofs.Common.{◌≡◌, ◌≤◌, ◌<◌, ⊎_elim, ℕ, zero, suc, ◌+◌, Bool, true, false, ◌==◌, ◌||◌, List, [], ◌∷◌, map, Result, Ok, Err, refl, sym, ap, ◌∙◌, arith}
+use Rattle.std.proofs.Common.{◌≡◌, ◌≤◌, ◌<◌, ⊎_elim, ℕ, zero, suc, ◌+◌, true, false, ◌==◌, List, [], ◌∷◌, map, Ok, Err, refl, ap, ◌∙◌, arith}
 use Rattle.std.proofs.lemmas.Bool.{cases_Bool, both_ways, or_cases, eqb-true}
 use Rattle.file_model.specs.declared.head.Head.{Head}
 use Rattle.file_model.specs.declared.reject.Reason.{Reason}
 use Rattle.file_model.specs.declared.reject.Reject.{Reject}
 use Rattle.file_model.specs.Block.{Block, Standing}
-use Rattle.file_model.specs.View.{Units, OpenUnit, with_unit, open_from, view}
+use Rattle.file_model.specs.View.{Units, open_from, view}
 use Rattle.file_model.specs.Taken.{judged, taken_next, taken_above, rejects_next, rejects_above, objects_in, table_of}
-use Rattle.file_model.specs.Gates.{Gates, is_among, rejected_units, ClosesRejects, table_with}
+use Rattle.file_model.specs.Gates.{Gates, is_among, ClosesRejects, table_with}
 
 abbrev units : List Reject → List ℕ
 units rs = map (λ r. r.unit) rs

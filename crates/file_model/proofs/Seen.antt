@@ -1,5 +1,5 @@
 -- What stands behind closed gates is not seen, nor are units behind the others whose gates are closed.
-use Rattle.std.proofs.Common.{◌≡◌, ◌≤◌, ◌<◌, ℕ, zero, suc, ◌+◌, Bool, true, false, List, [], ◌∷◌, refl, sym, ap, ◌∙◌, subst, arith}
+use Rattle.std.proofs.Common.{◌≡◌, ◌≤◌, ◌<◌, ℕ, zero, suc, ◌+◌, Bool, true, false, List, ◌∷◌, refl, ap, ◌∙◌, arith}
 use Rattle.file_model.specs.declared.head.Head.{Head}
 use Rattle.file_model.specs.Block.{Standing}
 use Rattle.file_model.specs.View.{Units, OpenUnit, with_unit, open_from, view}

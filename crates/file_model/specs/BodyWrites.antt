@@ -68,10 +68,10 @@ pub record MayWrite (per_segment : ℕ) (h : Head) (bodies : List Body) (image :
 abbrev pub RunsApart : Body → Body → Type 0
 RunsApart b c = (b.unit + 2 ^ b.exp ≤ c.unit) ⊎ (c.unit + 2 ^ c.exp ≤ b.unit)
 
--- R holds of each body and each one behind it
-abbrev pub Pairs : (Body → Body → Type 0) → List Body → Type 0
+-- R holds of each element and each one behind it
+abbrev pub Pairs : {X : Type 0} → (X → X → Type 0) → List X → Type 0
 Pairs R [] = Unit {0}
-Pairs R (b ∷ bs) = AllByRecursion (R b) bs × Pairs R bs
+Pairs R (x ∷ xs) = AllByRecursion (R x) xs × Pairs R xs
 
 -- a body whose bytes are those of a block of its run, whatever follows them
 pub record IsPacked (per_segment : ℕ) (h : Head) (b : Body) (t : Block) : Type 0 where

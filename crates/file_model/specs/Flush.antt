@@ -9,9 +9,9 @@ use Rattle.file_model.specs.declared.head.Head.{Head}
 use Rattle.file_model.specs.Layout.{page_size, open_byte, closed_byte}
 use Rattle.file_model.specs.Header.{located}
 use Rattle.file_model.specs.Block.{Block}
-use Rattle.file_model.specs.View.{Units, units_in, view}
+use Rattle.file_model.specs.View.{units_in, view}
 use Rattle.file_model.specs.Taken.{table_of}
-use Rattle.file_model.specs.Gates.{Gates, StandsOpen, OpenAtTaken, OldOrNew, table_with, is_among, opened, closed}
+use Rattle.file_model.specs.Gates.{StandsOpen, OpenAtTaken, OldOrNew, is_among}
 use Rattle.file_model.specs.GateWrites.{gate_writes, AreOpen}
 use Rattle.file_model.specs.BodyWrites.{Body, body_writes, HasRoom, MeetsNone, RunsApart, Pairs, IsPacked}
 

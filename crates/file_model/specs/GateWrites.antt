@@ -1,7 +1,6 @@
 -- What differs between two images where only gates of some units were written. This project's own.
 use Rattle.std.specs.Prelude.{◌≡◌, ◌≤◌, ◌<◌, ℕ, true, false, List, [], ◌∷◌, map, length}
-use Rattle.host_model.specs.Disk.{DiffersIn}
-use Rattle.host_model.specs.Writes.{Write, ranges_of}
+use Rattle.host_model.specs.Writes.{Write}
 use Rattle.file_model.specs.declared.head.Head.{Head}
 use Rattle.file_model.specs.Layout.{gate_at, segment_end, is_open_at}
 use Rattle.file_model.specs.Header.{located}

@@ -1,6 +1,6 @@
 -- What it means that a block is taken and that an open unit is rejected, said of one above the blocks that are taken below
 -- it. This project's own.
-use Rattle.std.specs.Prelude.{◌≡◌, ◌⊎◌, ℕ, List, [], ◌∷◌, find, Some, None, Ok, Err}
+use Rattle.std.specs.Prelude.{◌≡◌, ◌⊎◌, List, [], ◌∷◌, find, Some, None, Ok, Err}
 use Rattle.file_model.specs.declared.reject.Reason.{Reason}
 use Rattle.file_model.specs.declared.reject.Reason.TheVariants.{Overlaps, KeyTaken}
 use Rattle.file_model.specs.Block.{Block, Standing}

@@ -1,10 +1,10 @@
 -- Lemmas: the parts of a file do not meet. A segment has at least one unit.
-use Rattle.std.specs.Prelude.{◌≡◌, ◌≢◌, ◌≤◌, ◌<◌, ◌⊎◌, ℕ, zero, suc, ◌+◌, ◌-◌, ◌*◌, ◌/◌, ◌%◌, ◌^◌, List, length}
-use Rattle.std.proofs.Common.{arith, sym, ap, ◌∙◌, refl, subst, inl, inr, ⊎_elim}
+use Rattle.std.specs.Prelude.{◌≡◌, ◌≤◌, ◌<◌, ◌⊎◌, ℕ, suc, ◌+◌, ◌-◌, ◌*◌, ◌/◌, ◌%◌, ◌^◌, List, length}
+use Rattle.std.proofs.Common.{arith, ap, ◌∙◌, inl, inr, ⊎_elim}
 use Rattle.std.proofs.Math.Nat.{mul-suc, div-add-mod, mod-mod_of_dvd, mul-mod_right}
 use Rattle.std.proofs.lemmas.Nat.{mul-le, mod_below, pow_pos, pow_below, pow-add}
 use Rattle.std.proofs.lemmas.Nat.Gcd.{dvd_of_mod-eq-zero}
-use Rattle.std.proofs.lemmas.Bool.{cases_lt, cases_order}
+use Rattle.std.proofs.lemmas.Bool.{cases_lt}
 use Rattle.file_model.specs.Layout.{page_size, unit_size, segment_size, segment_at, gate_at, unit_at, segment_end, whole_segments}
 
 -- ---- numbers
