@@ -1,5 +1,6 @@
 -- What torn and whole writes of bodies leave of an image.
-use Rattle.std.proofs.Common.{◌≡◌, ◌≤◌, ◌<◌, ◌⊎◌, inl, inr, ⊎_elim, ℕ, ◌+◌, ◌-◌, ◌*◌, ◌^◌, false, ◌==◌, List, [], ◌∷◌, ◌++◌, length, take, drop, refl, sym, ap, ◌∙◌, arith, slice_range, length-take, length-drop}
+use Rattle.std.proofs.Common.{◌≡◌, ◌≤◌, ◌<◌, ◌⊎◌, inl, inr, ⊎_elim, ℕ, ◌+◌, ◌-◌, ◌*◌, ◌^◌, false, ◌==◌, List, [], ◌∷◌, ◌++◌, length, take, drop}
+use Rattle.std.proofs.Common.{refl, sym, ap, ◌∙◌, arith, slice_range, length-take, length-drop}
 use Rattle.std.specs.Prelude.{min}
 use Rattle.std.specs.List.{AllByRecursion}
 use Rattle.std.proofs.Math.Seq.{take-add}
@@ -172,5 +173,6 @@ all_stand n h old new (b ∷ bs) room read = (
 pub bodies_stand : (n : ℕ) (h : Head) (bodies : List Body) (old : List ℕ) → 0 < n → AllByRecursion (HasRoom n old) bodies → Pairs RunsApart bodies
     → AllByRecursion (StandsPacked n h (with_writes (body_writes n bodies) old)) bodies
 bodies_stand n h bodies old some room apart =
-    all_stand n h old (with_writes (body_writes n bodies) old) bodies room
-    (ReadBack-writes (body_writes n bodies) old (all_apart n old bodies some room apart) (begin_inside (body_writes n bodies) old (bodies_inside n old bodies room)))
+    let writes = body_writes n bodies in
+    let begin = begin_inside writes old (bodies_inside n old bodies room) in
+    all_stand n h old (with_writes writes old) bodies room (ReadBack-writes writes old (all_apart n old bodies some room apart) begin)

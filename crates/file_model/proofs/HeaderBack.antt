@@ -8,7 +8,8 @@ use Rattle.term_model.specs.declared.kind.Kind.TheVariants.{Set, Bag, DuplicateB
 use Rattle.file_model.specs.declared.head.Head.{Head}
 use Rattle.file_model.specs.declared.head.FileState.{FileState}
 use Rattle.file_model.specs.declared.head.FileState.TheVariants.{Closed, Dirty}
-use Rattle.file_model.specs.Header.{the_version, units_per_segment, most_segments, state_number, state_of, kind_number, kind_of, no_unit, index_number, index_of, may_name, is_allowed, if_allowed, number_at, body_of, head_in}
+use Rattle.file_model.specs.Header.{the_version, units_per_segment, most_segments, state_number, state_of, kind_number, kind_of, no_unit}
+use Rattle.file_model.specs.Header.{index_number, index_of, may_name, is_allowed, if_allowed, number_at, body_of, head_in}
 
 -- the fields of a header that is allowed
 record Allowed (h : Head) : Type 0 where

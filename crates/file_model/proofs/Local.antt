@@ -1,5 +1,6 @@
 -- What stands at a unit: what is known of a block there, and on which bytes it depends.
-use Rattle.std.proofs.Common.{◌≡◌, ◌≤◌, ℕ, ◌+◌, ◌-◌, ◌^◌, ◌%◌, Bool, true, false, cond, ◌&&◌, ◌==◌, List, [], ◌∷◌, take, drop, nat_le, Option, Some, None, Ok, Err, refl, sym, ap, ◌∙◌, subst, arith}
+use Rattle.std.proofs.Common.{◌≡◌, ◌≤◌, ℕ, ◌+◌, ◌-◌, ◌^◌, ◌%◌, Bool, true, false, cond, ◌&&◌, ◌==◌, List, [], ◌∷◌, take, drop, nat_le, Option, Some}
+use Rattle.std.proofs.Common.{None, Ok, Err, refl, sym, ap, ◌∙◌, subst, arith}
 use Rattle.std.proofs.Math.Seq.{take-take}
 use Rattle.std.proofs.lemmas.List.{drop-take}
 use Rattle.std.proofs.lemmas.Nat.{pow_pos}
@@ -10,7 +11,8 @@ use Rattle.term_model.specs.declared.kind.Kind.{Kind}
 use Rattle.file_model.specs.declared.head.Head.{Head}
 use Rattle.file_model.specs.declared.reject.Reason.TheVariants.{NotAligned}
 use Rattle.file_model.specs.Layout.{run_size, unit_bytes}
-use Rattle.file_model.specs.Block.{Block, BlockHead, head_size, is_well_formed, block_head, one_key, block_with, block_of, proper_elements, term_in, payload_in, standing_with, standing}
+use Rattle.file_model.specs.Block.{Block, BlockHead, head_size, is_well_formed, block_head, one_key, block_with, block_of, proper_elements, term_in}
+use Rattle.file_model.specs.Block.{payload_in, standing_with, standing}
 use Rattle.file_model.specs.View.{units_in, view}
 use Rattle.file_model.specs.Gates.{AreRead, SeenAlike}
 use Rattle.file_model.specs.Images.{judged_by_head, judged_size, ImagesAgree}

@@ -1,5 +1,6 @@
 -- There are no rejects just where each open unit has a block, and these do not meet and share no key.
-use Rattle.std.proofs.Common.{◌≡◌, ◌≤◌, ◌<◌, ◌⊎◌, inl, inr, ⊎_elim, ℕ, zero, suc, ◌+◌, ◌^◌, Bool, true, false, nat_le, nat_lt, List, [], ◌∷◌, find, None, Ok, Err, refl, sym, ap, ◌∙◌, subst, arith}
+use Rattle.std.proofs.Common.{◌≡◌, ◌≤◌, ◌<◌, ◌⊎◌, inl, inr, ⊎_elim, ℕ, zero, suc, ◌+◌, ◌^◌, Bool, true, false, nat_le, nat_lt, List, [], ◌∷◌, find}
+use Rattle.std.proofs.Common.{None, Ok, Err, refl, sym, ap, ◌∙◌, subst, arith}
 use Rattle.std.specs.List.{AllByRecursion}
 use Rattle.std.proofs.lemmas.Bool.{cases_Bool, cases_order, both_ways, and_cases, leb-false, ltb-false, and_right, le-ltb}
 use Rattle.term_model.specs.TermValue.{TermValue}
@@ -228,7 +229,8 @@ pub free_meets_none : (h : Head) (units : Units) (b : Body) → AreRead h units 
     → MeetsNone units b
 free_meets_none h units b read at_taken free u t there =
     let inside = there.inside in
-    let a = among_taken units.is_open units.stands u t there.opened there.stands units.count 0 [] (all_at_taken h units read at_taken) (omega arith) (omega arith) in
+    let all = all_at_taken h units read at_taken in
+    let a = among_taken units.is_open units.stands u t there.opened there.stands units.count 0 [] all (omega arith) (omega arith) in
     let own = (read u t there.stands).unit in
     ⊎_elim
     (λ l. inl (omega arith))

@@ -8,7 +8,8 @@ use Rattle.table_model.specs.Table.{objects_of}
 use Rattle.file_model.specs.declared.head.Head.{Head}
 use Rattle.file_model.specs.Block.{Block, Standing}
 use Rattle.file_model.specs.View.{Units}
-use Rattle.file_model.specs.Gates.{Gates, AreRead, StandsOpen, NoneMeet, NoneShareKeys, standing_has, standing_objects, lowest_objects, OpenBetween, either, table_with, OldOrNew, MayFlush}
+use Rattle.file_model.specs.Gates.{Gates, AreRead, StandsOpen, NoneMeet, NoneShareKeys, standing_has, standing_objects, lowest_objects, OpenBetween}
+use Rattle.file_model.specs.Gates.{either, table_with, OldOrNew, MayFlush}
 use Rattle.file_model.proofs.Lowest.{lowest}
 
 -- ---- blocks of a key
@@ -133,7 +134,9 @@ lowest_at gates units k w (suc n) u fits none o has a b = ⊎_elim
     (λ above. absurd (omega arith))
     apart)
     (cases_order u w)))
-    (λ there. rw there (lowest_at gates units k w n (suc u) (omega arith) none o has (omega (arith, not_here gates units.stands k u w there o has)) (omega arith)))
+    (λ there.
+    let other = not_here gates units.stands k u w there o has in
+    rw there (lowest_at gates units k w n (suc u) (omega arith) none o has (omega (arith, other)) (omega arith)))
     (cases_Bool (standing_has k (units.stands u) && gates u))
 
 lowest_none : (gates : Gates) (stands : ℕ → Standing) (k : TermValue) (n u : ℕ)

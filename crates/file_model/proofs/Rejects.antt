@@ -67,7 +67,9 @@ stays : (gates now : Gates) (stands : ℕ → Standing) (n u : ℕ) (below : Lis
     → Closes gates now stands (suc n) u below → now u ≡ true
 stays gates now stands n u below b opened j c = ⊎_elim
     (λ o. o)
-    (λ shut. absurd (let l = above gates stands n (suc u) u (b ∷ below) (rw (opened, j) at (c.rejected u (omega arith) (omega arith) opened shut)) in omega arith))
+    (λ shut. absurd (
+    let among = rw (opened, j) at (c.rejected u (omega arith) (omega arith) opened shut) in
+    let l = above gates stands n (suc u) u (b ∷ below) among in omega arith))
     (cases_Bool (now u))
 
 abbrev Same : (gates now : Gates) → (ℕ → Standing) → (n u : ℕ) → List Block → Type 0

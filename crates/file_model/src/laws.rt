@@ -19,7 +19,8 @@ ghost use Rattle.file_model.specs.Images.{ImagesAgree};
 ghost use Rattle.file_model.specs.View.{Units, View, view, units_in};
 ghost use Rattle.file_model.specs.Taken.{judged, taken, table_of};
 ghost use Rattle.file_model.specs.Judgement.{IsTaken, AreTaken, IsReason};
-ghost use Rattle.file_model.specs.Gates.{Gates, AreRead, StandsOpen, NoneMeet, NoneShareKeys, SeenAlike, lowest_objects, table_with, MayFlush, OpenBetween, OldOrNew, ClosesRejects, OpenAtTaken};
+ghost use Rattle.file_model.specs.Gates.{Gates, AreRead, StandsOpen, NoneMeet, NoneShareKeys, SeenAlike, lowest_objects, table_with, MayFlush};
+ghost use Rattle.file_model.specs.Gates.{OpenBetween, OldOrNew, ClosesRejects, OpenAtTaken};
 
 /// Two units have two gates. No gate is in a unit, nor behind one in its segment. Runs that do not meet have no byte in
 /// common, and an aligned run that is no larger than a segment ends in its segment.

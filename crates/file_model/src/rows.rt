@@ -10,7 +10,8 @@ ghost use Rattle.file_model.specs.Header.{body_of, head_in, head_of, head_of_pag
 ghost use Rattle.file_model.specs.Block.{standing, one_key};
 ghost use Rattle.file_model.specs.View.{view, units_in};
 ghost use Rattle.file_model.specs.Taken.{taken, rejects, table_of, entries};
-ghost use Rattle.file_model.specs.Rows.{closed_head, dirty_head, closed_body, dirty_body, page_with, set_block, block_bytes, small_view, replaced, hostile, small_file};
+ghost use Rattle.file_model.specs.Rows.{closed_head, dirty_head, closed_body, dirty_body, page_with, set_block, block_bytes, small_view, replaced};
+ghost use Rattle.file_model.specs.Rows.{hostile, small_file};
 
 /// Gates and units in segments of 4,096 units: the first and the last of the first segment, and some of the second.
 pub fn units_and_their_gates_stand_in_segments()
