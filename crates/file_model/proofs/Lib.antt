@@ -17,3 +17,4 @@ pub mod FlushBlocks
 pub mod Flush
 pub mod Packed
 pub mod Outside
+pub mod HeaderFound

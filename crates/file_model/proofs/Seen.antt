@@ -1,5 +1,5 @@
 -- What stands behind closed gates is not seen, nor are units behind the others whose gates are closed.
-use Rattle.std.proofs.Common.{◌≡◌, ◌≤◌, ◌<◌, ℕ, zero, suc, ◌+◌, Bool, true, false, List, ◌∷◌, refl, ap, ◌∙◌, arith}
+use Rattle.std.proofs.Common.{◌≡◌, ◌≤◌, ◌<◌, ℕ, zero, suc, ◌+◌, ◌-◌, Bool, true, false, List, ◌∷◌, refl, ap, ◌∙◌, arith}
 use Rattle.file_model.specs.declared.head.Head.{Head}
 use Rattle.file_model.specs.Block.{Standing}
 use Rattle.file_model.specs.View.{Units, OpenUnit, with_unit, open_from, view}
@@ -38,3 +38,11 @@ open_more gates stands zero (suc m) u l shut =
     rw closed (open_more gates stands zero m (suc u) (omega arith) (λ w a b. shut w (omega arith) (omega arith)))
 open_more gates stands (suc n) (suc m) u l shut =
     ap (λ us. with_unit (gates u) stands u us) (open_more gates stands n m (suc u) (omega arith) (λ w a b. shut w (omega arith) (omega arith)))
+
+-- the open units from one on are this one, where it is open, and those behind it
+pub open_turn : (gates : Gates) (stands : ℕ → Standing) (n u : ℕ) → u < n
+    → open_from gates stands (n - u) u ≡ with_unit (gates u) stands u (open_from gates stands (n - (u + 1)) (u + 1))
+open_turn gates stands n u l =
+    let left : n - u ≡ suc (n - (u + 1)) = omega arith in
+    let next : suc u ≡ u + 1 = omega arith in
+    ap (λ m. open_from gates stands m u) left ∙ ap (λ x. with_unit (gates u) stands u (open_from gates stands (n - (u + 1)) x)) next

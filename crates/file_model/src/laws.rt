@@ -1,22 +1,24 @@
 //! Laws of what is seen of a file, as contracts of functions that do nothing.
-ghost use Rattle.std.specs.Prelude.{◌≡◌, ◌≤◌, ◌<◌, ◌⊎◌, ℕ, ◌+◌, ◌*◌, ◌%◌, ◌^◌, List, Bool, true, false, ◌||◌, [], length, Some, Ok, Err};
+ghost use Rattle.std.specs.Prelude.{◌-◌, ◌≡◌, ◌≤◌, ◌<◌, ◌⊎◌, ℕ, ◌+◌, ◌*◌, ◌%◌, ◌^◌, List, Bool, true, false, ◌||◌, [], length, Some, Ok, Err};
 ghost use Rattle.term_model.specs.TermValue.{TermValue};
 ghost use Rattle.term_model.specs.declared.kind.Kind.{Kind};
 ghost use Rattle.table_model.specs.Table.{objects_of};
 ghost use Rattle.file_model.specs.declared.head.Head.{Head};
+ghost use Rattle.file_model.specs.declared.head.Located.{Located};
+ghost use Rattle.file_model.specs.declared.head.Unreadable.{Unreadable};
 ghost use Rattle.file_model.specs.declared.reject.Reason.{Reason};
 ghost use Rattle.etf_model.specs.Spelling.{Spells};
 ghost use Rattle.file_model.specs.declared.head.FileState.TheVariants.{Dirty};
-ghost use Rattle.file_model.specs.Header.{is_allowed, body_of, head_in, segments_in};
+ghost use Rattle.file_model.specs.Header.{is_allowed, body_of, head_in, current_copy, head_of, located, segments_in, segments_of};
 ghost use Rattle.file_model.specs.Free.{IsFreeIn};
 ghost use Rattle.file_model.specs.BodyWrites.{Body, MeetsNone};
-ghost use Rattle.file_model.specs.Fit.{has_no_rejects, is_sound, needs_repair};
-ghost use Rattle.file_model.specs.Layout.{is_open_at, unit_size, gate_at, unit_at, segment_end, whole_segments};
+ghost use Rattle.file_model.specs.Fit.{has_no_rejects, is_sound, needs_repair, IsFit};
+ghost use Rattle.file_model.specs.Layout.{page_of, is_open_at, unit_size, gate_at, unit_at, segment_end, whole_segments};
 ghost use Rattle.file_model.specs.LayoutLaws.{EndsInSegment};
 ghost use Rattle.file_model.specs.Block.{Block, Standing, standing, term_in};
 ghost use Rattle.file_model.specs.Stands.{StandsAligned};
 ghost use Rattle.file_model.specs.Images.{ImagesAgree};
-ghost use Rattle.file_model.specs.View.{Units, View, view, units_in};
+ghost use Rattle.file_model.specs.View.{Units, View, view, units_in, with_unit, open_from};
 ghost use Rattle.file_model.specs.Taken.{judged, taken, table_of};
 ghost use Rattle.file_model.specs.Judgement.{IsTaken, AreTaken, IsReason};
 ghost use Rattle.file_model.specs.Gates.{Gates, AreRead, StandsOpen, NoneMeet, NoneShareKeys, SeenAlike, lowest_objects, table_with, MayFlush};
@@ -33,6 +35,20 @@ pub fn gates_and_units_do_not_meet()
     ensures aligned { (power u exp : ℕ) → 2 ^ exp ≤ 2 ^ power → u % 2 ^ exp ≡ 0 → EndsInSegment (2 ^ power) u (2 ^ exp) }
     ensures whole { (per_segment u segments : ℕ) (image : List ℕ) → 0 < per_segment → u < per_segment * segments
         → segments ≤ whole_segments per_segment image → segment_end per_segment u ≤ length image }
+{}
+
+/// The header that is located is that of the file, and its whole segments are those that count. None is located just where
+/// none can be read.
+pub fn a_header_is_located_where_it_is_read()
+    ensures head { (image : List ℕ) (l : Located) → located image ≡ Ok l
+        → (head_of image ≡ Ok l.head) × (current_copy (page_of image) ≡ Some l.second) × (l.whole ≡ segments_of l.head image) }
+    ensures fault { (image : List ℕ) (why : Unreadable) → head_of image ≡ Err why → located image ≡ Err why }
+{}
+
+/// The open units from one on are this one, where it is open, and those behind it.
+pub fn open_units_follow_one_another()
+    ensures { (gates : Gates) (stands : ℕ → Standing) (n u : ℕ) → u < n
+        → open_from gates stands (n - u) u ≡ with_unit (gates u) stands u (open_from gates stands (n - (u + 1)) (u + 1)) }
 {}
 
 /// A unit whose gate is closed says nothing, whatever its bytes are.
@@ -133,6 +149,7 @@ pub fn a_free_run_meets_no_block_and_has_no_open_gate()
 /// A file with a header that can be read is sound or needs repair, and a dirty one is both.
 pub fn a_file_with_a_header_is_sound_or_needs_repair()
     ensures either { (h : Head) (image : List ℕ) → (is_sound h image || needs_repair h image) ≡ true }
+    ensures fit { (h : Head) (image : List ℕ) → head_of image ≡ Ok h → IsFit image }
     ensures dirty_is_sound { (h : Head) (image : List ℕ) → h.state ≡ Dirty → is_sound h image ≡ true }
     ensures dirty_needs_repair { (h : Head) (image : List ℕ) → h.state ≡ Dirty → needs_repair h image ≡ true }
 {}
