@@ -18,3 +18,4 @@ pub mod Flush
 pub mod Packed
 pub mod Outside
 pub mod HeaderFound
+pub mod Repair

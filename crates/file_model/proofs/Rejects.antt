@@ -1,13 +1,14 @@
 -- Closing the gates of rejects leaves the taken blocks.
-use Rattle.std.proofs.Common.{◌≡◌, ◌≤◌, ◌<◌, ⊎_elim, ℕ, zero, suc, ◌+◌, true, false, ◌==◌, List, [], ◌∷◌, map, Ok, Err, refl, ap, ◌∙◌, arith}
-use Rattle.std.proofs.lemmas.Bool.{cases_Bool, both_ways, or_cases, eqb-true}
+use Rattle.std.proofs.Common.{◌≡◌, ◌≤◌, ◌<◌, ⊎_elim, ℕ, zero, suc, ◌+◌, true, false, ◌==◌, List, [], ◌∷◌, map, Ok, Err, refl, ap, ◌∙◌, subst, arith}
+use Rattle.std.proofs.lemmas.Bool.{cases_Bool, both_ways, or_cases, or_left, or_right, eqb-true, eq-eqb}
 use Rattle.file_model.specs.declared.head.Head.{Head}
 use Rattle.file_model.specs.declared.reject.Reason.{Reason}
 use Rattle.file_model.specs.declared.reject.Reject.{Reject}
 use Rattle.file_model.specs.Block.{Block, Standing}
 use Rattle.file_model.specs.View.{Units, open_from, view}
 use Rattle.file_model.specs.Taken.{judged, taken_next, taken_above, rejects_next, rejects_above, objects_in, table_of}
-use Rattle.file_model.specs.Gates.{Gates, is_among, ClosesRejects, table_with}
+use Rattle.file_model.specs.Fit.{are_none, has_no_rejects}
+use Rattle.file_model.specs.Gates.{Gates, with_gates, is_among, rejected_units, ClosesRejects, table_with}
 
 abbrev units : List Reject → List ℕ
 units rs = map (λ r. r.unit) rs
@@ -104,3 +105,58 @@ table_without h file now c =
       rejected = λ w l m o shut. c.rejected w (omega arith) o shut;
     }) in
     λ i. record { kind = h.kind; keypos = h.keypos; objects = objects_in (e i) }
+
+-- ---- all of them closed
+
+-- what is among the rejects of so many units from one on is one of these units, and open
+pub rejects_open : (gates : Gates) (stands : ℕ → Standing) (n u w : ℕ) (below : List Block)
+    → is_among (units (rejects_above (open_from gates stands n u) below)) w ≡ true → (gates w ≡ true) × (w < u + n)
+rejects_open gates stands zero u w below e = absurd (cc e)
+rejects_open gates stands (suc n) u w below e = ⊎_elim
+    (λ opened. open_next gates stands n u w below (judged below (stands u)) opened (λ bs f. rejects_open gates stands n (suc u) w bs f) (rw opened at e))
+    (λ shut. let r = rejects_open gates stands n (suc u) w below (rw shut at e) in let l = r.1 in (r.0, omega arith))
+    (cases_Bool (gates u))
+  where
+    open_next : (gates : Gates) (stands : ℕ → Standing) (n u w : ℕ) (below : List Block) (s : Standing) → gates u ≡ true
+        → ((bs : List Block) → is_among (units (rejects_above (open_from gates stands n (suc u)) bs)) w ≡ true → (gates w ≡ true) × (w < suc u + n))
+        → is_among (units (rejects_next (rejects_above (open_from gates stands n (suc u))) u below s)) w ≡ true → (gates w ≡ true) × (w < u + suc n)
+    open_next gates stands n u w below (Ok b) opened go e = let r = go (b ∷ below) e in let l = r.1 in (r.0, omega arith)
+    open_next gates stands n u w below (Err reason) opened go e = ⊎_elim
+        (λ here. let same : u ≡ w = eqb-true u w here in (subst (λ x. gates x ≡ true) same opened, omega arith))
+        (λ there. let r = go below there in let l = r.1 in (r.0, omega arith))
+        (or_cases (u == w) (is_among (units (rejects_above (open_from gates stands n (suc u)) below)) w) e)
+
+-- each reject of so many units from one on, above these blocks, is closed now
+abbrev AllClosed : (gates now : Gates) → (ℕ → Standing) → (n u : ℕ) → List Block → Type 0
+AllClosed gates now stands n u below = (w : ℕ) → is_among (units (rejects_above (open_from gates stands n u) below)) w ≡ true → now w ≡ false
+
+none_at_open : (gates now : Gates) (stands : ℕ → Standing) (n u : ℕ) (below : List Block) (s : Standing) → gates u ≡ true → judged below (stands u) ≡ s
+    → Closes gates now stands (suc n) u below → AllClosed gates now stands (suc n) u below
+    → ((bs : List Block) → Closes gates now stands n (suc u) bs → AllClosed gates now stands n (suc u) bs
+    → rejects_above (open_from now stands n (suc u)) bs ≡ [])
+    → rejects_above (open_from now stands (suc n) u) below ≡ []
+none_at_open gates now stands n u below (Ok b) opened j c all go =
+    rw (stays gates now stands n u below b opened j c, j)
+    (go (b ∷ below) (after_taken gates now stands n u below b opened j c) (λ w e. all w (rw (opened, j) e)))
+none_at_open gates now stands n u below (Err reason) opened j c all go =
+    let shut : now u ≡ false = all u (rw (opened, j) (or_left (u == u) _ (eq-eqb u u refl))) in
+    rw shut (go below (after_rejected gates now stands n u below reason opened j c) (λ w e. all w (rw (opened, j) (or_right (u == w) _ e))))
+
+none_rejected : (gates now : Gates) (stands : ℕ → Standing) (n u : ℕ) (below : List Block) → Closes gates now stands n u below
+    → AllClosed gates now stands n u below → rejects_above (open_from now stands n u) below ≡ []
+none_rejected gates now stands zero u below c all = refl
+none_rejected gates now stands (suc n) u below c all = ⊎_elim
+    (λ opened. none_at_open gates now stands n u below (judged below (stands u)) opened refl c all
+    (λ bs d e. none_rejected gates now stands n (suc u) bs d e))
+    (λ closed.
+    let shut : now u ≡ false = ⊎_elim (λ o. absurd (both_ways _ closed (c.no_others u o))) (λ s. s) (cases_Bool (now u)) in
+    rw shut (none_rejected gates now stands n (suc u) below (after_closed gates now stands n u below closed c) (λ w e. all w (rw closed e))))
+    (cases_Bool (gates u))
+
+pub none_without : (h : Head) (file : Units) (now : Gates) → ClosesRejects h file now
+    → ((u : ℕ) → is_among (rejected_units (view h file)) u ≡ true → now u ≡ false) → has_no_rejects (view h (with_gates file now)) ≡ true
+none_without h file now c all =
+    ap are_none (none_rejected file.is_open now file.stands file.count 0 [] (record {
+      no_others = c.no_others;
+      rejected = λ w l m o shut. c.rejected w (omega arith) o shut;
+    }) all)

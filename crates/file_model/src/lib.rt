@@ -15,5 +15,6 @@ pub mod flush_laws;
 mod head;
 pub mod laws;
 mod reject;
+pub mod repair_laws;
 pub mod rows;
 pub mod write_laws;
