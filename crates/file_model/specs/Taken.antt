@@ -72,7 +72,7 @@ table_of v = record { kind = v.head.kind; keypos = v.head.keypos; objects = obje
 -- ---- what is known of a block without its objects
 
 -- the hash of a key is that of its canonical spelling
-abbrev pub key_hash : TermValue → ℕ
+unfoldable pub key_hash : TermValue → ℕ
 key_hash k = hash_of (VERSION ∷ canonical k)
 
 abbrev pub entry_of : Block → Entry
