@@ -1,10 +1,10 @@
 //! What is open behind some tokens of a text, and what one more token does.
 ghost use Rattle.std.specs.Prelude.{◌≡◌, ◌<◌, ◌≤◌, ◌^◌, ℕ, [], ◌∷◌, true, false, List, length, pos, ◌&&◌, ◌==◌, Option, Some, None, Ok, Err, IfOk};
-ghost use Rattle.std.specs.Prelude.{IfErr, OnOk, option_map};
+ghost use Rattle.std.specs.Prelude.{IfErr, OnOk};
 ghost use Rattle.dets_term.specs.TermValue.{TermValue, atom};
 ghost use Rattle.text_model.specs.Grammar.{strict};
-ghost use Rattle.text_model.specs.Nest.{Frame, want, stopped, closed, change, changed_to, at_segment, wants, repeats_in, refusal, refusal_of};
-ghost use Rattle.text_model.specs.Nest.{may_hold, wants_segment, is_colon, completed, leaf, open_term, last_part, brace_term, list_term, bits_term};
+ghost use Rattle.text_model.specs.Nest.{want, stopped, closed, change, at_segment, wants, repeats_in, refusal, refusal_of};
+ghost use Rattle.text_model.specs.Nest.{may_hold, wants_segment, is_colon, completed, leaf, open_term, brace_term, list_term, bits_term};
 ghost use Rattle.text_model.specs.Nest.{frame_after_comma, frame_after_bar, frame_after_arrow, take_segment, take_size, take_bytes, string_refusal};
 ghost use Rattle.text_model.specs.Nest.{take};
 ghost use Rattle.text_model.specs.Token.{a_number, a_string, mark, mark as mark_token, number, string};
