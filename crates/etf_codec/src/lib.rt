@@ -8,8 +8,8 @@
 pub use decoding::decode;
 pub use encoding::encode;
 pub use etf_model::EtfFault;
-pub use feed_model::{Fed, Feed};
 pub use feed::TermFeed;
+pub use feed_model::{Fed, Feed};
 pub use skipping::skip;
 pub use std::alloc::AllocError as Memory;
 

@@ -21,7 +21,7 @@ module _ {F : Type 0} (m : Meaning F) (steady : Steady m) (finished then : Bool)
       let moved = subst (λ n. IsStream m then (start + n) (drop n (bytes ++ more)) ts y) same.1 k in
       let dropped = drop-append-le count bytes more (steady.within finished start bytes u count front).1 in
       let on = first_stay stays (start + count) (drop count bytes) us vs ts x y h
-          (subst (λ l. IsStream m then (start + count) l ts y) dropped moved) in
+      (subst (λ l. IsStream m then (start + count) l ts y) dropped moved) in
       (on.0, ap₂ (λ v vs. v ∷ vs) (sym same.0) on.1)
 
   -- all stays where what stands behind the last term does

@@ -126,7 +126,7 @@ module _ {F : Type 0} (m : Meaning F) (steady : Steady m) (behind : Behind F) (l
       let calls = closing before in
       let more = fed_bytes calls ++ rest in
       let stays = steady.stays s.finished true s.offset s.left more (no_term (breaks fault)) (λ e. cc)
-          (λ f. (refl, nothing_more m calls (failed s fault) rest h done f)) is in
+      (λ f. (refl, nothing_more m calls (failed s fault) rest h done f)) is in
       let on = behind_fault m before (answer_to behind) (failed s fault) fault refl h in
       subst (λ ts. IsStream m true s.offset (s.left ++ more) ts behind) (sym on.0)
       (subst (λ x. m.Stands true s.offset (s.left ++ more) (no_term x)) (sym (answers_to_breaks behind fault on.1)) stays)

@@ -102,7 +102,7 @@ streams m steady finished (suc most) start bytes h =
     let x = steady.some finished start bytes in
     begun_with m steady finished start bytes
     (λ count some within.
-     streams m steady finished most (start + count) (drop count bytes) (omega (arith, h, some, within, length-drop count bytes))) x.0 x.1
+    streams m steady finished most (start + count) (drop count bytes) (omega (arith, h, some, within, length-drop count bytes))) x.0 x.1
 
 pub a_stream : {F : Type 0} (m : Meaning F) → Steady m → (finished : Bool) (start : ℕ) (bytes : List ℕ) → Streams m finished start bytes
 a_stream m steady finished start bytes = streams m steady finished (length bytes) start bytes (omega arith)
