@@ -2,4 +2,5 @@
 pub mod Serving
 pub mod Runs
 pub mod InputRuns
-pub mod BuiltScripts
+pub mod WholeInputs
+pub mod Jobs

@@ -1,25 +1,57 @@
--- The words that are accepted, and the job that they ask for. All of it is this project's own.
-use Rattle.std.specs.Prelude.{ℕ, Bool, false, not, ◌&&◌, ◌==◌, if◌then◌else◌, List, [], ◌∷◌, Option, Some, None, option_map, codes}
+-- The words that are accepted, the job that they ask for, and what a run of each job comes to. All of it is this project's own.
+use Rattle.std.specs.Prelude.{ℕ, Bool, false, not, ◌&&◌, ◌==◌, cond, List, [], ◌∷◌, Option, Some, None, codes}
 use Rattle.std.specs.Str.{bytes_eq, chars}
+use Rattle.host_model.specs.Source.{Stream}
+use Rattle.etf_model.specs.SpellingFeed.{spellings}
+use Rattle.text_model.specs.TextFeed.{texts}
 use Rattle.dets_tool.specs.declared.job.Job.{Job}
-use Rattle.dets_tool.specs.declared.job.Job.TheVariants.{Run}
+use Rattle.dets_tool.specs.declared.job.Job.TheVariants.{Run, Show, Encode, Decode}
+use Rattle.dets_tool.specs.declared.status.Status.{Status}
+use Rattle.dets_tool.specs.Status.{status_of_text, status_of_spelling}
+use Rattle.dets_tool.specs.Service.{serving, printing, encoding}
+use Rattle.dets_tool.specs.Run.{Ran, IsWhole}
 
 -- a word that may stand for a file: it is not empty and does not begin with `-`
 abbrev pub is_file : List ℕ → Bool
 is_file [] = false
 is_file (first ∷ rest) = not (first == 45)
 
--- the word for the file, where the words are `run` and such a word
-abbrev pub run_file : List (List ℕ) → Option (List ℕ)
-run_file [] = None
-run_file (command ∷ []) = None
-run_file (command ∷ file ∷ []) = if bytes_eq command (codes "run") && is_file file then Some file else None
-run_file (command ∷ file ∷ more ∷ rest) = None
+-- of one word
+abbrev pub job_of_one : List ℕ → Option Job
+job_of_one word = cond (bytes_eq word (codes "text")) (Some Show) None
+
+-- of two words
+abbrev pub job_of_two : (first second : List ℕ) → Option Job
+job_of_two first second =
+    cond (bytes_eq first (codes "run") && is_file second) (Some (Run (chars second)))
+    (cond (bytes_eq first (codes "text") && bytes_eq second (codes "encode")) (Some Encode)
+    (cond (bytes_eq first (codes "text") && bytes_eq second (codes "decode")) (Some Decode) None))
 
 -- the job that the words ask for; none where they have none of the stated forms
 abbrev pub stated_job : List (List ℕ) → Option Job
-stated_job words = option_map (λ file. Run (chars file)) (run_file words)
+stated_job [] = None
+stated_job (word ∷ []) = job_of_one word
+stated_job (first ∷ second ∷ []) = job_of_two first second
+stated_job (first ∷ second ∷ third ∷ rest) = None
 
 -- the characters of the file that a job works on
 abbrev pub path_of : Job → Option (List ℕ)
 path_of (Run file) = Some file
+path_of Show = None
+path_of Encode = None
+path_of Decode = None
+
+-- What a run of a job comes to: `run` replies to the commands of printed terms, `text` prints and `text encode` spells printed terms,
+-- and `text decode` prints terms that are spelled.
+abbrev pub RanJob : Job → Status → List ℕ → Option Stream → (said now : Option (List ℕ)) → Type 0
+RanJob (Run file) = Ran texts status_of_text serving
+RanJob Show = Ran texts status_of_text printing
+RanJob Encode = Ran texts status_of_text encoding
+RanJob Decode = Ran spellings status_of_spelling printing
+
+-- an input that a run of a job serves to its end, where no device and no memory fails
+abbrev pub IsWholeInput : Job → List ℕ → Type 0
+IsWholeInput (Run file) = IsWhole texts serving
+IsWholeInput Show = IsWhole texts printing
+IsWholeInput Encode = IsWhole texts encoding
+IsWholeInput Decode = IsWhole spellings printing

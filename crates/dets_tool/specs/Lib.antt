@@ -1,7 +1,10 @@
 -- ---- cited by public contracts
 pub mod Job
 pub mod InputFeed
+pub mod Service
 pub mod Run
 pub mod Status
 -- ---- a middle: how a run goes on from command to command
 pub mod Serving
+-- ---- lemmas: what both kinds of inputs have in common
+pub mod Inputs

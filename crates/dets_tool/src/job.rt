@@ -1,7 +1,7 @@
 // What the words ask for.
 ghost use Rattle.std.specs.Prelude.{◌≡◌, ◌↔◌, None, Some, option_map, option_copied, IfOk, IsErrOf};
 ghost use Rattle.std.specs.Str.{chars};
-ghost use Rattle.dets_tool.specs.Job.{is_file, run_file, stated_job, path_of};
+ghost use Rattle.dets_tool.specs.Job.{is_file, job_of_one, job_of_two, stated_job, path_of};
 
 use crate::{Memory, Words};
 use dets_term::Text;
@@ -13,6 +13,12 @@ use thiserror::Error;
 pub enum Job {
     /// The input is a script, which is run on the table of this file.
     Run(Text),
+    /// The input is printed terms, which are printed.
+    Show,
+    /// The input is printed terms, which are spelled.
+    Encode,
+    /// The input is terms that are spelled, which are printed.
+    Decode,
 }
 
 /// Why the words are not a job.
@@ -33,34 +39,49 @@ impl Job {
     {
         match self {
             Job::Run(file) => Some(file.as_str()),
+            Job::Show | Job::Encode | Job::Decode => None,
         }
     }
 }
 
-/// What the words ask for: `run FILE`, where FILE is any word that is not empty and does not begin with `-`.
-/// `Refused`: exactly where the words have another form. `Memory`: no room for the text of the file.
+/// What the words ask for: `run FILE`, where FILE is any word that is not empty and does not begin with `-`, `text`,
+/// `text encode` or `text decode`. `Refused`: exactly where the words have another form. `Memory`: no room for the text of the file.
 pub fn job_of(alloc: Global, words: &Words) -> Result<Job, WordsFault>
     ensures ok { IfOk result (λ job. stated_job words.now ≡ Some job) }
     ensures refused { IsErrOf result WordsFault.Refused ↔ (stated_job words.now ≡ None) }
 {
-    match file_of_run(words) {
-        None => Err(WordsFault::Refused),
-        Some(file) => match text_of(alloc, file) {
-            Ok(text) => Ok(Job::Run(text)),
-            Err(_) => Err(WordsFault::Memory),
-        },
+    match words.len() {
+        1 => job_of_one(words.at(0)),
+        2 => job_of_two(alloc, words.at(0), words.at(1)),
+        _ => Err(WordsFault::Refused),
     }
 }
 
-// The file of `run FILE`, where the words have that form.
-fn file_of_run(words: &Words) -> Option<&str>
-    ensures { option_copied result ≡ run_file words.now }
+// What one word asks for.
+fn job_of_one(word: &str) -> Result<Job, WordsFault>
+    ensures ok { IfOk result (λ job. job_of_one word.now ≡ Some job) }
+    ensures refused { IsErrOf result WordsFault.Refused ↔ (job_of_one word.now ≡ None) }
 {
-    if words.len() != 2 || words.at(0) != "run" {
-        return None;
+    match word {
+        "text" => Ok(Job::Show),
+        _ => Err(WordsFault::Refused),
     }
-    let file = words.at(1);
-    if is_file(file) { Some(file) } else { None }
+}
+
+// What two words ask for.
+fn job_of_two(alloc: Global, first: &str, second: &str) -> Result<Job, WordsFault>
+    ensures ok { IfOk result (λ job. job_of_two first.now second.now ≡ Some job) }
+    ensures refused { IsErrOf result WordsFault.Refused ↔ (job_of_two first.now second.now ≡ None) }
+{
+    match (first, second) {
+        ("run", file) if is_file(file) => match text_of(alloc, file) {
+            Ok(text) => Ok(Job::Run(text)),
+            Err(_) => Err(WordsFault::Memory),
+        },
+        ("text", "encode") => Ok(Job::Encode),
+        ("text", "decode") => Ok(Job::Decode),
+        _ => Err(WordsFault::Refused),
+    }
 }
 
 // Whether a word may stand for a file.

@@ -1,15 +1,21 @@
-//! The program: `dets_tool run FILE` reads a script of commands from standard input and writes a reply to each.
+//! The program: `dets_tool run FILE` reads a script of commands from standard input and writes a reply to each;
+//! `dets_tool text`, `text encode` and `text decode` take terms from one form to the other.
 //!
-//! Stands on `host_model` for what is read and said, `term_text` for text, and `dets_machine` for the commands.
+//! Stands on `host_model` for what is read and said, `term_text` for text, `etf_codec` for spellings, and `dets_machine` for the
+//! commands. `run` takes the terms of an input and puts the line of each, over any `Input` and any `Service`.
 //! `dets_main` is the whole program over any source and any host; `main` hands it the real ones. `job_of` accepts
 //! exactly the stated words, `InputFeed` takes the input within a budget, and `Status` says the code and the line
 //! of each end.
 #![tactic(auto)]
 
+mod commands;
+mod input;
 mod input_feed;
 mod job;
+mod printing;
 mod program;
-mod script;
+mod run;
+mod service;
 mod status;
 mod words;
 

@@ -2,17 +2,22 @@
 ghost use Rattle.std.specs.Prelude.{◌≡◌, ◌≢◌, ◌↔◌, List, ℕ, false, None, Some};
 ghost use Rattle.host_model.specs.Counts.{Rose};
 ghost use Rattle.host_model.specs.Source.{Stream};
-ghost use Rattle.dets_tool.specs.Job.{stated_job};
+ghost use Rattle.dets_tool.specs.Job.{stated_job, RanJob, IsWholeInput};
 ghost use Rattle.dets_tool.specs.declared.job.Job.{Job};
-ghost use Rattle.dets_tool.specs.Run.{Ran, IsBuiltScript, IsServed};
+ghost use Rattle.dets_tool.specs.Run.{IsServed};
 
-use crate::{Job, Status, Words, WordsFault, job_of, script};
+use crate::commands::Commands;
+use crate::printing::{Encoding, Printing};
+use crate::run::run;
+use crate::{Job, Status, Words, WordsFault, job_of};
+use etf_codec::TermFeed;
 use host_model::{FileHost, Host, Source, StdSource};
 use std::alloc::Global;
 use std::env::Env;
 use std::io::ErrorKind;
 use std::rt::Runtime;
 use std::{env, str};
+use term_text::TextFeed;
 
 /// Does what the words ask for: `run FILE` reads a script from the source and puts the reply to each command,
 /// with a full stop and a line end, in one piece. `Done`: the input was read to its end, and each of its commands
@@ -29,19 +34,33 @@ pub fn dets_main<S: Source, H: Host>(
 ) -> Status
     // A run over a source that tells its input, and was not read to its end before.
     ensures run { (job : Job) (stream : Stream) → stated_job words.now ≡ Some job → S.told source.old ≡ Some stream → stream.ended ≡ false
-        → Ran result stream.left (S.told source.new) (H.shows host.old).said (H.shows host.new).said }
-    ensures built { (job : Job) (stream : Stream) → stated_job words.now ≡ Some job → S.told source.old ≡ Some stream → stream.ended ≡ false
-        → IsBuiltScript stream.left → IsServed result }
+        → RanJob job result stream.left (S.told source.new) (H.shows host.old).said (H.shows host.new).said }
+    ensures whole { (job : Job) (stream : Stream) → stated_job words.now ≡ Some job → S.told source.old ≡ Some stream → stream.ended ≡ false
+        → IsWholeInput job stream.left → IsServed result }
 
     ensures source_fault { result ≡ Status.SourceFault → Rose (S.faults source.old) (S.faults source.new) }
     ensures no_source_fault { result ≢ Status.SourceFault → result ≢ Status.Memory → S.faults source.new ≡ S.faults source.old }
     ensures output { result ≡ Status.Output → Rose (H.shows host.old).out_faults (H.shows host.new).out_faults }
 
+    // No call on the file is made.
+    ensures file { (H.shows host.new).file ≡ (H.shows host.old).file }
+    ensures disk_faults { (H.shows host.new).disk_faults ≡ (H.shows host.old).disk_faults }
+    ensures reads { (H.shows host.new).reads ≡ (H.shows host.old).reads }
+
     ensures refused { result ≡ Status.WordsRefused ↔ (stated_job words.now ≡ None) }
     ensures untouched { stated_job words.now ≡ None → (source.new ≡ source.old) × (host.new ≡ host.old) }
 {
     match job_of(alloc, words) {
-        Ok(Job::Run(_)) => script::run(alloc, source, host),
+        Ok(Job::Run(_)) => run(
+            alloc,
+            TextFeed::new(alloc),
+            Commands::new(alloc),
+            source,
+            host,
+        ),
+        Ok(Job::Show) => run(alloc, TextFeed::new(alloc), Printing(alloc), source, host),
+        Ok(Job::Encode) => run(alloc, TextFeed::new(alloc), Encoding(alloc), source, host),
+        Ok(Job::Decode) => run(alloc, TermFeed::new(alloc), Printing(alloc), source, host),
         Err(WordsFault::Refused) => Status::WordsRefused,
         Err(WordsFault::Memory) => Status::Memory,
     }

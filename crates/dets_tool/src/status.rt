@@ -5,6 +5,7 @@ ghost use Rattle.dets_tool.specs.declared.status.Status.TheVariants.{Memory as O
 
 use crate::Memory;
 use dets_term::ByteList;
+use etf_codec::EtfFault;
 use itoa::Buffer;
 use std::alloc::Global;
 use term_text::TextWhy;
@@ -35,6 +36,8 @@ pub enum InputWhy {
     TooMuch,
     /// It breaks this rule of printed terms.
     Text(TextWhy),
+    /// It has this fault of the External Term Format.
+    Etf(EtfFault),
 }
 
 impl From<Memory> for Status {

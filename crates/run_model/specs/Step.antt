@@ -27,7 +27,11 @@ step s term = option_and_then (serve s) (command_of term)
 abbrev pub after_exit : State → State
 after_exit s = record s { is_open = false }
 
+-- the answers of a step to a list of terms, up to the first that has none
+abbrev pub answers : {S : Type 0} → (S → TermValue → Option (TermValue × S)) → S → List TermValue → List TermValue
+answers step s [] = []
+answers {S} step s (term ∷ terms) = option_map_or (λ (served : TermValue × S). served.0 ∷ answers step served.1 terms) (step s term) []
+
 -- the replies to a list of commands, up to the first that is not built
 abbrev pub replies : State → List TermValue → List TermValue
-replies s [] = []
-replies s (term ∷ terms) = option_map_or (λ (served : TermValue × State). served.0 ∷ replies served.1 terms) (step s term) []
+replies s terms = answers step s terms

@@ -1,12 +1,13 @@
 -- What the bytes of a stream of printed terms mean is steady.
-use Rattle.std.proofs.Common.{◌≡◌, ◌≢◌, ℕ, ◌+◌, Bool, true, false, cond, List, [], ◌++◌, refl, ap, sym, ◌∙◌, subst, inl, inr, append-nil}
+use Rattle.std.proofs.Common.{◌≡◌, ◌≢◌, ℕ, ◌+◌, Bool, true, false, cond, List, [], ◌∷◌, ◌++◌, drop, map, refl, ap, sym, ◌∙◌, subst, inl, inr, append-nil, add_assoc}
 use Rattle.feed_model.specs.Meaning.{goes_on, ends, breaks, InFront, a_term, no_term}
 use Rattle.feed_model.specs.Steady.{Steady}
+use Rattle.feed_model.specs.Stream.{IsStream}
 use Rattle.text_model.specs.declared.fault.TextFault.{TextFault}
 use Rattle.text_model.specs.declared.fault.TextFault.TheVariants.{Syntax, Memory}
-use Rattle.text_model.specs.Script.{blank, may_go_on, fault, Answer, a_term as a_sentence, no_term as no_sentence, IsAnswer}
+use Rattle.text_model.specs.Script.{Rest, blank, may_go_on, fault, Answer, a_term as a_sentence, no_term as no_sentence, IsAnswer, moved, Placed, IsScript}
 use Rattle.text_model.specs.Progress.{answer_of}
-use Rattle.text_model.specs.TextFeed.{stands, texts}
+use Rattle.text_model.specs.TextFeed.{stands, texts, behind_of}
 use Rattle.text_model.proofs.Answering.{answer_is, answer_only}
 use Rattle.text_model.proofs.Scripts.{term_stays, fault_stays}
 use Rattle.text_model.proofs.TermLengths.{term_some, term_within}
@@ -76,3 +77,30 @@ steady-texts = record {
   open_end = λ start bytes h. let clash = h.0 in cc;
   no_memory = λ finished start bytes h. h;
 }
+
+-- ---- a stream gives the terms of its script
+
+rest_stands : (finished : Bool) (start : ℕ) (bytes : List ℕ) (rest : Rest) → IsAnswer finished bytes (no_sentence rest)
+    → stands finished start bytes (no_term (behind_of finished start rest))
+rest_stands true start bytes blank is = (refl, is)
+rest_stands false start bytes blank is = (refl, inl is)
+rest_stands true start bytes may_go_on is = let clash : true ≡ false = is.1.0 in cc
+rest_stands false start bytes may_go_on is = (refl, inr is)
+rest_stands finished start bytes (fault at why) is = (at, refl, is)
+
+moved_behind : (finished : Bool) (start count : ℕ) (rest : Rest) → behind_of finished (start + count) rest ≡ behind_of finished start (moved count rest)
+moved_behind finished start count blank = refl
+moved_behind finished start count may_go_on = refl
+moved_behind finished start count (fault at why) = ap (λ o. breaks (Syntax o why)) (add_assoc start count at)
+
+pub script_stream : (finished : Bool) (start : ℕ) (bytes : List ℕ) (placed : List Placed) (rest : Rest) → IsScript finished bytes placed rest
+    → IsStream texts finished start bytes (map (λ p. p.term) placed) (behind_of finished start rest)
+script_stream finished start bytes [] rest is = rest_stands finished start bytes rest is
+script_stream finished start bytes (first ∷ others) rest (here, (behind, e, is)) =
+    let terms = map (λ (p : Placed). p.term) others in (
+      first.bytes,
+      here,
+      subst (IsStream texts finished (start + first.bytes) (drop first.bytes bytes) terms)
+          (moved_behind finished start first.bytes behind ∙ ap (behind_of finished start) (sym e))
+          (script_stream finished (start + first.bytes) (drop first.bytes bytes) others behind is),
+    )

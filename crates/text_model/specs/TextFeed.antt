@@ -1,10 +1,10 @@
 -- What a feed of printed terms shows, and what the bytes of its stream mean.
-use Rattle.std.specs.Prelude.{◌≡◌, ℕ, ◌+◌, Bool, true, false, List, ◌⊎◌}
-use Rattle.feed_model.specs.Meaning.{goes_on, ends, breaks, InFront, a_term, no_term, Meaning}
+use Rattle.std.specs.Prelude.{◌≡◌, ℕ, ◌+◌, Bool, true, false, cond, List, ◌⊎◌}
+use Rattle.feed_model.specs.Meaning.{Behind, goes_on, ends, breaks, InFront, a_term, no_term, Meaning}
 use Rattle.feed_model.specs.Feed.{Feed}
 use Rattle.text_model.specs.declared.fault.TextFault.{TextFault}
 use Rattle.text_model.specs.declared.fault.TextFault.TheVariants.{Syntax, Memory}
-use Rattle.text_model.specs.Script.{blank, may_go_on, fault, a_term as a_sentence, no_term as no_sentence, IsAnswer}
+use Rattle.text_model.specs.Script.{Rest, blank, may_go_on, fault, a_term as a_sentence, no_term as no_sentence, IsAnswer}
 
 abbrev pub TextFeed : Type 0
 TextFeed = Feed TextFault
@@ -22,3 +22,9 @@ stands finished start bytes (no_term (breaks Memory)) = ⊥
 
 abbrev pub texts : Meaning TextFault
 texts = record { Stands = stands; memory = Memory }
+
+-- the rest of a script, as what stands behind the terms of a stream: a fault has its offset in the stream then
+abbrev pub behind_of : (finished : Bool) (start : ℕ) → Rest → Behind TextFault
+behind_of finished start blank = cond finished ends goes_on
+behind_of finished start may_go_on = goes_on
+behind_of finished start (fault offset why) = breaks (Syntax (start + offset) why)

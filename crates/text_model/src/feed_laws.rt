@@ -1,12 +1,13 @@
 //! Laws of a feed of printed terms, as contracts of functions that do nothing.
-ghost use Rattle.std.specs.Prelude.{◌≡◌, ◌≢◌, ℕ, Result, Err, Bool, true, List, [], ◌++◌};
+ghost use Rattle.std.specs.Prelude.{◌≡◌, ◌≢◌, ℕ, Result, Err, Bool, true, List, [], ◌++◌, map};
 ghost use Rattle.dets_term.specs.TermValue.{TermValue};
 ghost use Rattle.feed_model.specs.Meaning.{Behind};
 ghost use Rattle.feed_model.specs.Feed.{empty_feed, IsNext};
 ghost use Rattle.feed_model.specs.Stream.{IsStream};
 ghost use Rattle.feed_model.specs.History.{Call, IsHistory, fed_bytes, answered_terms, is_finished, EndsBy};
 ghost use Rattle.feed_model.specs.declared.fed.Fed.{Fed};
-ghost use Rattle.text_model.specs.TextFeed.{TextFeed, texts};
+ghost use Rattle.text_model.specs.Script.{Rest, Placed, IsScript};
+ghost use Rattle.text_model.specs.TextFeed.{TextFeed, texts, behind_of};
 ghost use Rattle.text_model.specs.declared.fault.TextFault.{TextFault};
 ghost use Rattle.text_model.specs.declared.fault.TextFault.TheVariants.{Memory as OutOfMemory};
 
@@ -26,6 +27,12 @@ pub fn a_stream_gives_one_list_of_terms()
 pub fn each_stream_gives_some_terms_and_an_answer()
     ensures { (finished : Bool) (start : ℕ) (bytes : List ℕ) → (ts : List TermValue) × (behind : Behind TextFault)
         × IsStream texts finished start bytes ts behind }
+{}
+
+/// A stream gives the terms of its script, and what stands behind them is the script's rest.
+pub fn a_stream_gives_the_terms_of_its_script()
+    ensures { (finished : Bool) (start : ℕ) (bytes : List ℕ) (placed : List Placed) (rest : Rest) → IsScript finished bytes placed rest
+        → IsStream texts finished start bytes (map (λ p. p.term) placed) (behind_of finished start rest) }
 {}
 
 /// The terms that a feed has given are the first of its stream, whatever else it answered, as that it waits for more bytes, and

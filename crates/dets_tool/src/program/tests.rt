@@ -1,5 +1,6 @@
 //! What no clause says: that calls succeed where memory is there, and what the clauses come to at small values.
 use crate::{InputWhy, Memory, Status, Words, dets_main};
+use etf_codec::EtfFault;
 use host_model::{MemHost, MemSource};
 use std::alloc::Global;
 use std::test::Fail;
@@ -42,6 +43,19 @@ const TWO_REPLIES: &[u8] = b"{ok,table}.\nok.\n";
 
 const PLAIN_REPLIES: &[u8] = b"{ok,table}.\nok.\n[{k,1}].\n";
 
+const TEXT: &[&str] = &["text"];
+
+const ENCODE: &[&str] = &["text", "encode"];
+
+const DECODE: &[&str] = &["text", "decode"];
+
+const TERMS: &[u8] = b"'Hello World'. [a|[b]]. \"hi\". <<1,2,3:4>>. #{b=>1,a=>2}. 'end'.";
+
+const PRINTED: &[u8] = b"'Hello World'.\n[a,b].\n[104,105].\n<<1,2,3:4>>.\n#{a=>2,b=>1}.\n'end'.\n";
+
+const SPELLED: &[u8] =
+    b"\x83w\x0bHello World\x83l\x00\x00\x00\x02w\x01aw\x01bj\x83k\x00\x02hi\x83M\x00\x00\x00\x03\x04\x01\x020\x83t\x00\x00\x00\x02w\x01aa\x02w\x01ba\x01\x83w\x03end";
+
 const SOURCE_FAULT: &[u8] = b"dets_tool: source fault\n";
 
 const OUTPUT_FAULT: &[u8] = b"dets_tool: output fault\n";
@@ -54,7 +68,7 @@ const NOT_YET_AT_3: &[u8] = b"dets_tool: not yet at command 3\n";
 
 #[test]
 fn runs_end_as_stated(rt: HostRuntime) -> Result<(), Fail> {
-    let rows: [(Run<'_>, &[u8], &[u8]); 18] = [
+    let rows: [(Run<'_>, &[u8], &[u8]); 32] = [
         // the plain path, in pieces
         ((RUN, PLAIN, 1, &[], &[]), b"", PLAIN_REPLIES),
         ((RUN, PLAIN, 2, &[], &[]), b"", PLAIN_REPLIES),
@@ -84,6 +98,51 @@ fn runs_end_as_stated(rt: HostRuntime) -> Result<(), Fail> {
             WORDS_REFUSED,
             b"",
         ),
+        ((&[], TERMS, 4096, &[0], &[0]), WORDS_REFUSED, b""),
+        (
+            (&["text", "spell"], TERMS, 4096, &[0], &[0]),
+            WORDS_REFUSED,
+            b"",
+        ),
+        (
+            (&["text", "encode", "t"], TERMS, 4096, &[0], &[0]),
+            WORDS_REFUSED,
+            b"",
+        ),
+        // terms from one form to the other, in pieces
+        ((TEXT, TERMS, 1, &[], &[]), b"", PRINTED),
+        ((TEXT, TERMS, 4096, &[], &[]), b"", PRINTED),
+        ((ENCODE, TERMS, 5, &[], &[]), b"", SPELLED),
+        ((DECODE, SPELLED, 1, &[], &[]), b"", PRINTED),
+        ((DECODE, SPELLED, 4096, &[], &[]), b"", PRINTED),
+        // what is refused: a float, a stream that is too short, a tag that is not allowed
+        (
+            (TEXT, b"a. 1.5.", 4096, &[], &[]),
+            b"dets_tool: input refused at 4\n",
+            b"a.\n",
+        ),
+        (
+            (ENCODE, b"a. 1.5.", 2, &[], &[]),
+            b"dets_tool: input refused at 4\n",
+            b"\x83w\x01a",
+        ),
+        (
+            (DECODE, b"\x83w\x01a\x83w\x02b", 2, &[], &[]),
+            b"dets_tool: input refused at 8\n",
+            b"a.\n",
+        ),
+        (
+            (DECODE, b"\x83w\x01a\x83F", 4096, &[], &[]),
+            b"dets_tool: input refused at 5\n",
+            b"a.\n",
+        ),
+        // a read and a put that fail
+        (
+            (DECODE, SPELLED, 14, &[1], &[]),
+            SOURCE_FAULT,
+            b"'Hello World'.\n",
+        ),
+        ((ENCODE, TERMS, 4096, &[], &[0]), OUTPUT_FAULT, b""),
         // each read fails in turn; a first one of 13 bytes gives the first command
         ((RUN, PLAIN, 4096, &[0], &[]), SOURCE_FAULT, b""),
         ((RUN, PLAIN, 4096, &[1], &[]), SOURCE_FAULT, PLAIN_REPLIES),
@@ -101,6 +160,15 @@ fn runs_end_as_stated(rt: HostRuntime) -> Result<(), Fail> {
         assert_eq!(rt; told.0.as_slice(), line);
         assert_eq!(rt; told.1.as_slice(), said);
     }
+    Ok(())
+}
+
+#[test]
+fn a_fault_of_a_spelling_is_told(rt: HostRuntime) -> Result<(), Fail> {
+    let (status, said) = ended(rt.alloc(), (DECODE, b"\x83w\x02b", 2, &[], &[]))?;
+    let is_told = matches!(status, Status::Input(4, InputWhy::Etf(EtfFault::Short)));
+    assert!(rt; is_told);
+    assert!(rt; said.is_empty());
     Ok(())
 }
 
