@@ -1,14 +1,15 @@
 -- Small tables that worked rows look into.
-use Rattle.std.specs.Prelude.{ℕ, [], ◌∷◌, List, fold}
+use Rattle.std.specs.Prelude.{ℕ, [], ◌∷◌, List}
 use Rattle.term_model.specs.TermValue.{TermValue}
 use Rattle.term_model.specs.Written.{word, number, pair}
 use Rattle.term_model.specs.declared.kind.Kind.{Kind}
 use Rattle.term_model.specs.declared.kind.Kind.TheVariants.{Set, Bag, DuplicateBag}
-use Rattle.table_model.specs.Table.{Table, empty_table, insert_object}
+use Rattle.table_model.specs.Table.{Table, empty_table}
+use Rattle.table_model.specs.Operations.{insert_objects}
 
 -- a table in which these objects were inserted, in order
 abbrev pub filled : Kind → ℕ → List TermValue → Table
-filled kind keypos objects = fold insert_object (empty_table kind keypos) objects
+filled kind keypos objects = insert_objects (empty_table kind keypos) objects
 
 -- {1,x}, {2,x} and then {1,y}
 abbrev pub numbered_set : Table

@@ -1,5 +1,9 @@
 -- ---- cited by public contracts
 pub mod Table
+pub mod Operations
+pub mod Counter
+pub mod Touched
 pub mod Filled
 -- ---- lemmas
 pub mod Sets
+pub mod Inserted

@@ -5,4 +5,6 @@
 pub use laws::{a_set_has_one_object_of_a_key, the_objects_of_a_key_ascend};
 
 mod laws;
+pub mod operation_laws;
+pub mod operation_rows;
 pub mod rows;
