@@ -1,8 +1,9 @@
 -- A counter: an integer in an object of a set, after update_counter/3 of the dets reference manual. The range of
 -- integers is this project's own.
-use Rattle.std.specs.Prelude.{ℕ, zero, suc, ◌^◌, ℤ, pos, negsuc, ◌+ℤ◌, Bool, cond, ◌==◌, nat_lt, find, slice_set, List, Option, Some, None, Result, Ok, Err}
+use Rattle.std.specs.Prelude.{◌≡◌, ℕ, zero, suc, ◌^◌, ℤ, pos, negsuc, ◌+ℤ◌, Bool, false, cond, ◌==◌, nat_lt, find, slice_set, List, [], ◌∷◌, Option, Some, None, Result, Ok, Err}
 use Rattle.term_model.specs.TermValue.{TermValue, integer, tuple, nil, chain, elements, key}
-use Rattle.table_model.specs.Table.{Table, has_key, insert_object}
+use Rattle.term_model.specs.Order.{is_same}
+use Rattle.table_model.specs.Table.{Table, has_key, objects_of, insert_object}
 
 -- why a counter is not updated: there is none in that place of an object with the key, or its sum is no integer of a term
 pub data CounterFault : Type 0 where
@@ -61,3 +62,16 @@ update_counter table k place increment = counted table (place_of place) incremen
 -- the place where none is given: behind the key
 abbrev pub usual_place : Table → ℤ
 usual_place table = pos (suc table.keypos)
+
+-- what an update of a counter leaves of a set
+pub record Increments (table : Table) (k : TermValue) (place increment : ℤ) (new : Counted) : Type 0 where
+  -- the object of the key, and the integer in that place of it
+  pub object : TermValue
+  pub there : find (has_key table.keypos k) table.objects ≡ Some object
+  pub old : ℤ
+  pub counter : counter_at table.keypos (place_of place) object ≡ Some old
+  pub sum : new.value ≡ old +ℤ increment
+  -- the key has that object alone, with the sum in its place, and the other keys have what they had
+  pub objects : objects_of new.table k ≡ with_element object (place_of place) (integer new.value) ∷ []
+  pub in_place : key (with_element object (place_of place) (integer new.value)) (place_of place) ≡ Some (integer new.value)
+  pub other_keys : (j : TermValue) → is_same k j ≡ false → objects_of new.table j ≡ objects_of table j

@@ -7,3 +7,6 @@ pub mod Filled
 -- ---- lemmas
 pub mod Sets
 pub mod Inserted
+pub mod Deleted
+pub mod TouchedKeys
+pub mod Counters

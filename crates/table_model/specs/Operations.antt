@@ -1,6 +1,6 @@
 -- What the operations leave of a table, after insert/2, insert_new/2, member/2, delete/2, delete_object/2 and
 -- delete_all_objects/1 of the dets reference manual.
-use Rattle.std.specs.Prelude.{Bool, cond, not, List, [], filter, fold}
+use Rattle.std.specs.Prelude.{◌≡◌, Bool, true, cond, not, List, [], filter, fold}
 use Rattle.std.specs.List.{list_any, list_all}
 use Rattle.term_model.specs.TermValue.{TermValue, key}
 use Rattle.term_model.specs.Order.{is_same}
@@ -21,6 +21,12 @@ has_new_key table object = not (list_any (shares_key table.keypos (key object ta
 -- The reply of insert_new: whether the keys of all these objects are new. Objects of the list may share a key.
 abbrev pub are_new : Table → List TermValue → Bool
 are_new table objects = list_all (has_new_key table) objects
+
+-- a key of these objects that is there
+pub record KnownKey (table : Table) (objects : List TermValue) : Type 0 where
+  pub key : TermValue
+  pub inserted : list_any (has_key table.keypos key) objects ≡ true
+  pub member : is_member table key ≡ true
 
 -- the table after insert_new: all objects are inserted, or none where a key is there already
 abbrev pub insert_new_objects : Table → List TermValue → Table

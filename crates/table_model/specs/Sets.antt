@@ -14,7 +14,7 @@ others_by p true y kept e h = h
 others_by p false y kept e h = ap (λ b. cond b (y ∷ filter p kept) (filter p kept)) e ∙ h
 
 -- none passes of those that do not
-filter_others : (p : TermValue → Bool) (xs : List TermValue) → filter p (filter (λ x. not (p x)) xs) ≡ []
+pub filter_others : (p : TermValue → Bool) (xs : List TermValue) → filter p (filter (λ x. not (p x)) xs) ≡ []
 filter_others p [] = refl
 filter_others p (y ∷ xs) = others_by p (p y) y (filter (λ x. not (p x)) xs) refl (filter_others p xs)
 
