@@ -1,0 +1,6 @@
+-- ---- cited by public contracts
+pub mod Least
+pub mod Runs
+pub mod Apart
+
+-- ---- lemmas

@@ -1,0 +1,8 @@
+//! Definitions of the space in a table's file, which the crates above cite: runs of units, which of them are free and
+//! where a new one is placed, and the ledger that tells by the commands alone which runs are held.
+//!
+//! It stands on std alone: units are numbers, and keys are bytes. It promises laws of these definitions, and compares
+//! them with worked rows.
+#![tactic(auto)]
+
+pub mod run_rows;
