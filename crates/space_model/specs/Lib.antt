@@ -2,5 +2,5 @@
 pub mod Least
 pub mod Runs
 pub mod Apart
-
 -- ---- lemmas
+pub mod Places

@@ -5,4 +5,5 @@
 //! them with worked rows.
 #![tactic(auto)]
 
+pub mod run_laws;
 pub mod run_rows;
