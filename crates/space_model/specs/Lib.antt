@@ -3,4 +3,6 @@ pub mod Least
 pub mod Runs
 pub mod Apart
 -- ---- lemmas
+pub mod Minima
 pub mod Places
+pub mod Reordered

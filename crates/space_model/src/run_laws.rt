@@ -1,7 +1,8 @@
 //! Laws of runs, as contracts of functions that do nothing.
-ghost use Rattle.std.specs.Prelude.{◌≡◌, ◌≤◌, ℕ, List, Some, None, true, false};
+ghost use Rattle.std.specs.Prelude.{◌≡◌, ◌≤◌, ◌<◌, ℕ, ◌+◌, ◌^◌, List, Some, None, true, false};
+ghost use Rattle.space_model.specs.Least.{log2};
 ghost use Rattle.space_model.specs.Runs.{Run, run, is_free, front_of_smallest};
-ghost use Rattle.space_model.specs.Apart.{In, Apart, IsRun, IsPlace};
+ghost use Rattle.space_model.specs.Apart.{In, SameMembers, Apart, IsRun, IsPlace};
 
 /// A place is the front of a maximal free run of at least its size: of the smallest, and of these of the lowest.
 #[tactic(auto, using(crate::specs::Places::place_is))]
@@ -26,4 +27,17 @@ pub fn a_place_is_a_free_run()
 pub fn without_a_place_no_run_is_free()
     ensures { (largest units : ℕ) (held : List Run) (exp : ℕ) (r : Run) → front_of_smallest largest units held exp ≡ None → exp ≤ r.exp
         → IsRun largest units r → is_free units held r ≡ false }
+{}
+
+/// A place depends on which runs are held, and not on their order.
+#[tactic(auto, using(crate::specs::Reordered::place_same))]
+pub fn a_place_depends_on_the_held_runs_alone()
+    ensures { (largest units : ℕ) (xs ys : List Run) (exp : ℕ) → SameMembers xs ys → front_of_smallest largest units xs exp ≡ front_of_smallest largest units ys exp }
+{}
+
+/// The power of two with that exponent is at most the number, and the next one is greater.
+#[tactic(auto, using(crate::specs::Minima::log2_below, crate::specs::Minima::log2_above))]
+pub fn the_exponent_of_the_greatest_power_of_two()
+    ensures at_most { (n : ℕ) → 1 ≤ n → 2 ^ log2 n ≤ n }
+    ensures greatest { (n : ℕ) → n < 2 ^ (log2 n + 1) }
 {}
