@@ -5,5 +5,6 @@
 //! them with worked rows.
 #![tactic(auto)]
 
+pub mod ledger_rows;
 pub mod run_laws;
 pub mod run_rows;
