@@ -37,7 +37,7 @@ least_is test n (suc more) e =
 
 -- ---- powers of two
 
-below_own_power : (n : ℕ) → n < 2 ^ n
+pub below_own_power : (n : ℕ) → n < 2 ^ n
 below_own_power zero = omega arith
 below_own_power (suc n) = let twice = two-pow-succ n in let less = below_own_power n in omega (arith, twice, less)
 

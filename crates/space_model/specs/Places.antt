@@ -188,8 +188,20 @@ precedes top units held exp u l r room = ⊎_elim
     fewer : (a b n : ℕ) → a * n < b * n → a < b
     fewer a b n l = ⊎_elim (λ (x : a < b). x) (λ (x : b ≤ a). absurd (let m : b * n ≤ a * n = mul-le-mul_right n x in omega (arith, l, m))) (cases_lt a b)
 
-pub place_is : (top units : ℕ) (held : List Run) (exp u : ℕ) → exp ≤ top → front_of_smallest top units held exp ≡ Some u → IsPlace top units held exp u
-place_is top units held exp u fits is =
+too_few : (top units : ℕ) (held : List Run) (exp u n : ℕ) → n ≡ 0 → smallest top units held exp n ≡ Some u → ⊥
+too_few top units held exp u zero e is = cc is
+too_few top units held exp u (suc n) e is = omega (arith, e)
+
+-- a run that has a place is at most of the largest exponent
+pub place_fits : (top units : ℕ) (held : List Run) (exp u : ℕ) → front_of_smallest top units held exp ≡ Some u → exp ≤ top
+place_fits top units held exp u is = ⊎_elim
+    (λ (l : exp < suc top). omega (arith, l))
+    (λ (l : suc top ≤ exp). absurd (too_few top units held exp u (suc top - exp) (omega (arith, l)) is))
+    (cases_lt exp (suc top))
+
+pub place_is : (top units : ℕ) (held : List Run) (exp u : ℕ) → front_of_smallest top units held exp ≡ Some u → IsPlace top units held exp u
+place_is top units held exp u is =
+    let fits = place_fits top units held exp u is in
     let l = smallest_at top units held exp (suc top - exp) u is in
     let least = l.least in
     let most = l.most in
@@ -210,8 +222,9 @@ place_is top units held exp u fits is =
     }
 
 -- A place is aligned, lies in the units, and meets no held run.
-pub place_is_run : (top units : ℕ) (held : List Run) (exp u : ℕ) → exp ≤ top → front_of_smallest top units held exp ≡ Some u → IsRun top units (run u exp)
-place_is_run top units held exp u fits is =
+pub place_is_run : (top units : ℕ) (held : List Run) (exp u : ℕ) → front_of_smallest top units held exp ≡ Some u → IsRun top units (run u exp)
+place_is_run top units held exp u is =
+    let fits = place_fits top units held exp u is in
     let l = smallest_at top units held exp (suc top - exp) u is in
     let least = l.least in
     let at = l.at.unit in
@@ -220,9 +233,9 @@ place_is_run top units held exp u fits is =
     let ends : u + 2 ^ l.size ≤ units = free.0 in
     record { exp = fits; aligned = aligned_times u l.at.turns exp l.size least (omega (arith, at)); ends = omega (arith, more, ends) }
 
-pub place_is_apart : (top units : ℕ) (held : List Run) (exp u : ℕ) (q : Run) → exp ≤ top → front_of_smallest top units held exp ≡ Some u → In q held
+pub place_is_apart : (top units : ℕ) (held : List Run) (exp u : ℕ) (q : Run) → front_of_smallest top units held exp ≡ Some u → In q held
     → Apart (run u exp) q
-place_is_apart top units held exp u q fits is a =
+place_is_apart top units held exp u q is a =
     let l = smallest_at top units held exp (suc top - exp) u is in
     let least = l.least in
     let free = free_run units held (run u l.size) (and_parts _ _ l.at.maximal).0 in
@@ -282,10 +295,10 @@ no_place top units held exp r none enough is = false_from_ne_true _ (λ free.
     (all_none top units held exp (suc top - exp) none m.around.exp (omega (arith, more, enough)) (omega (arith, more, enough, fits))) m.is_run m.maximal)
 
 -- and where there is one, one is free
-pub place_is_free : (top units : ℕ) (held : List Run) (exp u : ℕ) → exp ≤ top → front_of_smallest top units held exp ≡ Some u → is_free units held (run u exp) ≡ true
-place_is_free top units held exp u fits is =
-    and_from _ _ (le-leb (end_of (run u exp)) units (place_is_run top units held exp u fits is).ends)
-    (not_from_false _ (none_of (run u exp) held (λ q a. meets-apart (run u exp) q (place_is_apart top units held exp u q fits is a))))
+pub place_is_free : (top units : ℕ) (held : List Run) (exp u : ℕ) → front_of_smallest top units held exp ≡ Some u → is_free units held (run u exp) ≡ true
+place_is_free top units held exp u is =
+    and_from _ _ (le-leb (end_of (run u exp)) units (place_is_run top units held exp u is).ends)
+    (not_from_false _ (none_of (run u exp) held (λ q a. meets-apart (run u exp) q (place_is_apart top units held exp u q is a))))
   where
     meets-apart : (r q : Run) → Apart r q → meets r q ≡ false
     meets-apart r q apart = ⊎_elim

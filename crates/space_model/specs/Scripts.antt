@@ -20,9 +20,6 @@ after_each l (t ∷ ts) = after_each (after_command 16 l (t ∷ [])) ts
 abbrev pub flushed_after : Ledger → List Touch → Ledger
 flushed_after l touches = flush (after_each l touches)
 
-abbrev pub pending_keys : Ledger → List (List ℕ)
-pending_keys l = map (λ p. p.key) l.pending
-
 -- a ledger in which keys wait with payloads of so many bytes, or with none
 abbrev pub waits : List (Option ℕ) → Ledger
 waits sizes = record (made 1) {

@@ -5,6 +5,7 @@
 //! them with worked rows.
 #![tactic(auto)]
 
+pub mod ledger_laws;
 pub mod ledger_rows;
 pub mod run_laws;
 pub mod run_rows;

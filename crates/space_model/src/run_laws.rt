@@ -7,18 +7,18 @@ ghost use Rattle.space_model.specs.Apart.{In, SameMembers, Apart, IsRun, IsPlace
 /// A place is the front of a maximal free run of at least its size: of the smallest, and of these of the lowest.
 #[tactic(auto, using(crate::specs::Places::place_is))]
 pub fn a_place_is_in_the_smallest_and_lowest_run()
-    ensures { (largest units : ℕ) (held : List Run) (exp unit : ℕ) → exp ≤ largest → front_of_smallest largest units held exp ≡ Some unit
+    ensures { (largest units : ℕ) (held : List Run) (exp unit : ℕ) → front_of_smallest largest units held exp ≡ Some unit
         → IsPlace largest units held exp unit }
 {}
 
 /// A place is aligned, lies in the units and meets no held run, so it is a free run.
 #[tactic(auto, using(crate::specs::Places::place_is_run, crate::specs::Places::place_is_apart, crate::specs::Places::place_is_free))]
 pub fn a_place_is_a_free_run()
-    ensures is_run { (largest units : ℕ) (held : List Run) (exp unit : ℕ) → exp ≤ largest → front_of_smallest largest units held exp ≡ Some unit
+    ensures is_run { (largest units : ℕ) (held : List Run) (exp unit : ℕ) → front_of_smallest largest units held exp ≡ Some unit
         → IsRun largest units (run unit exp) }
-    ensures apart { (largest units : ℕ) (held : List Run) (exp unit : ℕ) (q : Run) → exp ≤ largest → front_of_smallest largest units held exp ≡ Some unit
+    ensures apart { (largest units : ℕ) (held : List Run) (exp unit : ℕ) (q : Run) → front_of_smallest largest units held exp ≡ Some unit
         → In q held → Apart (run unit exp) q }
-    ensures free { (largest units : ℕ) (held : List Run) (exp unit : ℕ) → exp ≤ largest → front_of_smallest largest units held exp ≡ Some unit
+    ensures free { (largest units : ℕ) (held : List Run) (exp unit : ℕ) → front_of_smallest largest units held exp ≡ Some unit
         → is_free units held (run unit exp) ≡ true }
 {}
 
