@@ -5,6 +5,7 @@ pub mod Apart
 pub mod Ledger
 pub mod LedgerOrder
 pub mod Scripts
+pub mod Slots
 -- ---- lemmas
 pub mod Members
 pub mod Minima
@@ -15,3 +16,4 @@ pub mod Serving
 pub mod Served
 pub mod Flushing
 pub mod Rooms
+pub mod Splits
