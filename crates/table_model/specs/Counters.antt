@@ -1,11 +1,11 @@
 -- Lemmas: a counter that is updated.
-use Rattle.std.proofs.Common.{◌≡◌, ℕ, zero, suc, ℤ, Bool, true, false, cond, List, [], ◌∷◌, Option, Some, None, Ok, Err, refl, ap, ◌∙◌, subst}
+use Rattle.std.proofs.Common.{◌≡◌, ℕ, zero, suc, ℤ, Bool, true, false, cond, List, [], ◌∷◌, Option, Some, None, Ok, Err, refl, sym, ap, ◌∙◌, subst}
 use Rattle.std.specs.Prelude.{◌+ℤ◌, ◌==◌, find, slice_get, slice_set}
 use Rattle.std.proofs.lemmas.Bool.{eqb-false}
 use Rattle.term_model.specs.TermValue.{TermValue, integer, atom, tuple, mapping, nil, cons, bits, elements, key}
 use Rattle.term_model.specs.Same.{equal_from_same}
 use Rattle.term_model.specs.declared.kind.Kind.TheVariants.{Set}
-use Rattle.table_model.specs.Table.{Table, has_key, is_key, insert_object}
+use Rattle.table_model.specs.Table.{Table, has_key, is_key, objects_of, insert_object}
 use Rattle.table_model.specs.Counter.{OutOfRange, Counted, is_in_range, place_of, integer_of, counter_at, with_element, with_increment, counted, update_counter, Increments}
 use Rattle.table_model.specs.Sets.{in_a_set}
 use Rattle.table_model.specs.Inserted.{other_keys_kept}
@@ -62,7 +62,7 @@ found_passes : {A : Type 0} (p : A → Bool) (xs : List A) (x : A) → find p xs
 found_passes p [] x e = cc
 found_passes p (y ∷ xs) x e = passes_first p y (find p xs) x (p y) refl (found_passes p xs x) e
 
-key_found : (k : TermValue) (found : Option TermValue) → is_key k found ≡ true → found ≡ Some k
+pub key_found : (k : TermValue) (found : Option TermValue) → is_key k found ≡ true → found ≡ Some k
 key_found k None e = cc
 key_found k (Some j) e = ap Some (equal_from_same j k e)
 
@@ -87,50 +87,77 @@ is_counter keypos place object old false e is = record { apart = eqb-false place
 
 -- ---- the update
 
+-- how an update went that gave a sum
+pub record Updates (table : Table) (k : TermValue) (place increment : ℤ) (new : Counted) : Type 0 where
+  pub before : TermValue
+  pub there : find (has_key table.keypos k) table.objects ≡ Some before
+  pub old : ℤ
+  pub counter : counter_at table.keypos (place_of place) before ≡ Some old
+  pub sum : new.value ≡ old +ℤ increment
+  pub object : TermValue
+  pub object_is : object ≡ with_element before (place_of place) (integer new.value)
+  pub key_is : key object table.keypos ≡ Some k
+  pub inserted : insert_object table object ≡ new.table
+
 abbrev summed : Table → TermValue → ℕ → ℤ → Counted
 summed table object place sum = record { value = sum; table = insert_object table (with_element object place (integer sum)) }
 
-increments_by : (table : Table) (k : TermValue) (place increment : ℤ) (object : TermValue) (old : ℤ) → table.kind ≡ Set
+updates_by : (table : Table) (k : TermValue) (place increment : ℤ) (object : TermValue) (old : ℤ)
     → find (has_key table.keypos k) table.objects ≡ Some object → counter_at table.keypos (place_of place) object ≡ Some old
-    → Increments table k place increment (summed table object (place_of place) (old +ℤ increment))
-increments_by table k place increment object old set there counter =
+    → Updates table k place increment (summed table object (place_of place) (old +ℤ increment))
+updates_by table k place increment object old there counter =
     let c = is_counter table.keypos (place_of place) object old (place_of place == table.keypos) refl counter in
     let sum = integer (old +ℤ increment) in
-    let key_kept : key (with_element object (place_of place) sum) table.keypos ≡ Some k =
-    set_elsewhere object (place_of place) table.keypos sum c.apart
-    ∙ key_found k (key object table.keypos) (found_passes (has_key table.keypos k) table.objects object there) in
     record {
-      object = object;
+      before = object;
       there = there;
       old = old;
       counter = counter;
       sum = refl;
-      objects = in_a_set table (with_element object (place_of place) sum) k set key_kept;
-      in_place = set_here object (place_of place) sum (integer old) c.integer_there;
-      other_keys = λ j e. other_keys_kept table (with_element object (place_of place) sum) j (ap (is_key j) key_kept ∙ e);
+      object = with_element object (place_of place) sum;
+      object_is = refl;
+      key_is = set_elsewhere object (place_of place) table.keypos sum c.apart
+          ∙ key_found k (key object table.keypos) (found_passes (has_key table.keypos k) table.objects object there);
+      inserted = refl;
     }
 
 in_range : (table : Table) (k : TermValue) (place increment : ℤ) (object : TermValue) (sum : ℤ) (new : Counted) (b : Bool)
-    → Increments table k place increment (summed table object (place_of place) sum)
-    → cond b (Ok (summed table object (place_of place) sum)) (Err OutOfRange) ≡ Ok new → Increments table k place increment new
+    → Updates table k place increment (summed table object (place_of place) sum)
+    → cond b (Ok (summed table object (place_of place) sum)) (Err OutOfRange) ≡ Ok new → Updates table k place increment new
 in_range table k place increment object sum new true i e =
-    let same : summed table object (place_of place) sum ≡ new = cc e in subst (λ (c : Counted). Increments table k place increment c) same i
+    let same : summed table object (place_of place) sum ≡ new = cc e in subst (λ (c : Counted). Updates table k place increment c) same i
 in_range table k place increment object sum new false i e = absurd (cc e)
 
-with_counter : (table : Table) (k : TermValue) (place increment : ℤ) (new : Counted) (object : TermValue) (c : Option ℤ) → table.kind ≡ Set
+with_counter : (table : Table) (k : TermValue) (place increment : ℤ) (new : Counted) (object : TermValue) (c : Option ℤ)
     → find (has_key table.keypos k) table.objects ≡ Some object → counter_at table.keypos (place_of place) object ≡ c
-    → with_increment table object (place_of place) increment c ≡ Ok new → Increments table k place increment new
-with_counter table k place increment new object None set there counter e = absurd (cc e)
-with_counter table k place increment new object (Some old) set there counter e =
+    → with_increment table object (place_of place) increment c ≡ Ok new → Updates table k place increment new
+with_counter table k place increment new object None there counter e = absurd (cc e)
+with_counter table k place increment new object (Some old) there counter e =
     in_range table k place increment object (old +ℤ increment) new (is_in_range (old +ℤ increment))
-    (increments_by table k place increment object old set there counter) e
+    (updates_by table k place increment object old there counter) e
 
-with_object : (table : Table) (k : TermValue) (place increment : ℤ) (new : Counted) (o : Option TermValue) → table.kind ≡ Set
-    → find (has_key table.keypos k) table.objects ≡ o → counted table (place_of place) increment o ≡ Ok new → Increments table k place increment new
-with_object table k place increment new None set there e = absurd (cc e)
-with_object table k place increment new (Some object) set there e =
-    with_counter table k place increment new object (counter_at table.keypos (place_of place) object) set there refl e
+with_found : (table : Table) (k : TermValue) (place increment : ℤ) (new : Counted) (o : Option TermValue)
+    → find (has_key table.keypos k) table.objects ≡ o → counted table (place_of place) increment o ≡ Ok new → Updates table k place increment new
+with_found table k place increment new None there e = absurd (cc e)
+with_found table k place increment new (Some object) there e =
+    with_counter table k place increment new object (counter_at table.keypos (place_of place) object) there refl e
+
+pub updated : (table : Table) (k : TermValue) (place increment : ℤ) (new : Counted) → update_counter table k place increment ≡ Ok new
+    → Updates table k place increment new
+updated table k place increment new e = with_found table k place increment new (find (has_key table.keypos k) table.objects) refl e
 
 pub increments : (table : Table) (k : TermValue) (place increment : ℤ) (new : Counted) → table.kind ≡ Set → update_counter table k place increment ≡ Ok new
     → Increments table k place increment new
-increments table k place increment new set e = with_object table k place increment new (find (has_key table.keypos k) table.objects) set refl e
+increments table k place increment new set e =
+    let u = updated table k place increment new e in
+    let c = is_counter table.keypos (place_of place) u.before u.old (place_of place == table.keypos) refl u.counter in
+    record {
+      object = u.before;
+      there = u.there;
+      old = u.old;
+      counter = u.counter;
+      sum = u.sum;
+      objects = ap (λ (t : Table). objects_of t k) (sym u.inserted) ∙ in_a_set table u.object k set u.key_is ∙ ap (λ (o : TermValue). o ∷ []) u.object_is;
+      in_place = set_here u.before (place_of place) (integer new.value) (integer u.old) c.integer_there;
+      other_keys = λ j other. ap (λ (t : Table). objects_of t j) (sym u.inserted) ∙ other_keys_kept table u.object j (ap (is_key j) u.key_is ∙ other);
+    }

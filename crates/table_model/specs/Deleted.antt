@@ -16,7 +16,7 @@ use Rattle.table_model.specs.Inserted.{filter-without, one_key}
 
 -- ---- members
 
-filter_none : {A : Type 0} (p : A → Bool) (xs : List A) → list_any p xs ≡ false → filter p xs ≡ []
+pub filter_none : {A : Type 0} (p : A → Bool) (xs : List A) → list_any p xs ≡ false → filter p xs ≡ []
 filter_none p [] e = refl
 filter_none p (x ∷ xs) e = let parts = or_parts (p x) (list_any p xs) e in
     ap (λ b. cond b (x ∷ filter p xs) (filter p xs)) parts.0 ∙ filter_none p xs parts.1

@@ -15,6 +15,10 @@ filled kind keypos objects = insert_objects (empty_table kind keypos) objects
 abbrev pub numbered_set : Table
 numbered_set = filled Set 1 (pair (number 1) (word "x") ∷ pair (number 2) (word "x") ∷ pair (number 1) (word "y") ∷ [])
 
+-- {1,x}, {2,x} and {3,x}
+abbrev pub small_set : Table
+small_set = filled Set 1 (pair (number 1) (word "x") ∷ pair (number 2) (word "x") ∷ pair (number 3) (word "x") ∷ [])
+
 -- {1,a}, {1,b} and then {2,a}, with the key in the second place
 abbrev pub second_place_set : Table
 second_place_set = filled Set 2 (pair (number 1) (word "a") ∷ pair (number 1) (word "b") ∷ pair (number 2) (word "a") ∷ [])

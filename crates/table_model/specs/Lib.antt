@@ -3,6 +3,8 @@ pub mod Table
 pub mod Operations
 pub mod Counter
 pub mod Touched
+pub mod Walk
+pub mod Allowed
 pub mod Filled
 -- ---- lemmas
 pub mod Sets
@@ -10,3 +12,5 @@ pub mod Inserted
 pub mod Deleted
 pub mod TouchedKeys
 pub mod Counters
+pub mod Walks
+pub mod AllowedKept

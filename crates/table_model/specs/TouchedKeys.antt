@@ -48,7 +48,7 @@ pub any-without : {A : Type 0} (p q : A → Bool) → ((x : A) → q x ≡ true 
 any-without p q so [] = refl
 any-without p q so (x ∷ xs) = any-filter_first p x (filter (λ y. not (q y)) xs) (q x) (p x) (so x) refl ∙ ap (λ b. p x || b) (any-without p q so xs)
 
-any-filter_none : {A : Type 0} (p q : A → Bool) (xs : List A) → list_any p xs ≡ false → list_any p (filter q xs) ≡ false
+pub any-filter_none : {A : Type 0} (p q : A → Bool) (xs : List A) → list_any p xs ≡ false → list_any p (filter q xs) ≡ false
 any-filter_none p q [] e = refl
 any-filter_none p q (x ∷ xs) e = let parts = or_parts (p x) (list_any p xs) e in by_test p x (filter q xs) (q x) parts.0 (any-filter_none p q xs parts.1)
   where
@@ -56,7 +56,7 @@ any-filter_none p q (x ∷ xs) e = let parts = or_parts (p x) (list_any p xs) e 
     by_test p x kept true here rest = or_from (p x) (list_any p kept) here rest
     by_test p x kept false here rest = rest
 
-none_left : {A : Type 0} (p : A → Bool) (xs : List A) → list_any p (filter (λ x. not (p x)) xs) ≡ false
+pub none_left : {A : Type 0} (p : A → Bool) (xs : List A) → list_any p (filter (λ x. not (p x)) xs) ≡ false
 none_left p [] = refl
 none_left p (x ∷ xs) = by_test p x (filter (λ y. not (p y)) xs) (p x) refl (none_left p xs)
   where
@@ -95,11 +95,11 @@ repeats-distinct (t ∷ ts) = or_from _ _ (none_left (is_same t) (distinct ts)) 
 
 -- ---- the keys of objects
 
-any-key : (k : TermValue) (found : Option TermValue) (ks : List TermValue) → list_any (is_same k) (cons_option found ks) ≡ (is_key k found || list_any (is_same k) ks)
+pub any-key : (k : TermValue) (found : Option TermValue) (ks : List TermValue) → list_any (is_same k) (cons_option found ks) ≡ (is_key k found || list_any (is_same k) ks)
 any-key k None ks = refl
 any-key k (Some j) ks = ap (λ b. b || list_any (is_same k) ks) (same_flips k j)
 
-any-found : (keypos : ℕ) (k : TermValue) (objects : List TermValue)
+pub any-found : (keypos : ℕ) (k : TermValue) (objects : List TermValue)
     → list_any (is_same k) (filter_map (λ object. key object keypos) objects) ≡ list_any (has_key keypos k) objects
 any-found keypos k [] = refl
 any-found keypos k (o ∷ objects) =

@@ -4,7 +4,10 @@
 
 pub use laws::{a_set_has_one_object_of_a_key, the_objects_of_a_key_ascend};
 
+pub mod kind_laws;
 mod laws;
 pub mod operation_laws;
 pub mod operation_rows;
 pub mod rows;
+pub mod walk_laws;
+pub mod walk_rows;

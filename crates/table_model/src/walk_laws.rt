@@ -1,0 +1,41 @@
+//! Laws of walks, as contracts of functions that do nothing.
+ghost use Rattle.std.specs.Prelude.{◌≡◌, ◌≤◌, ◌<◌, ℕ, Bool, List, true, false};
+ghost use Rattle.std.specs.List.{list_any, list_all};
+ghost use Rattle.std.specs.List.Sorted.{IsPermutation, IsSortedByKey};
+ghost use Rattle.std.specs.Ordering.{nat_cmp, ordering_then};
+ghost use Rattle.term_model.specs.TermValue.{TermValue};
+ghost use Rattle.term_model.specs.Order.{order, is_same};
+ghost use Rattle.term_model.specs.Pairs.{repeats};
+ghost use Rattle.table_model.specs.Table.{Table};
+ghost use Rattle.table_model.specs.Operations.{is_member, delete_where};
+ghost use Rattle.table_model.specs.Allowed.{is_object};
+ghost use Rattle.table_model.specs.Touched.{is_touched};
+ghost use Rattle.table_model.specs.Walk.{slot_of_key, slots_after, walk_place, walked_keys, walked, touched_by_delete};
+
+/// Keys are walked by their slots, and in a slot by the order of terms.
+#[tactic(auto, using(crate::specs::Walks::place_order))]
+pub fn keys_are_walked_by_slot_and_then_by_term()
+    ensures order { (slots : ℕ) (j k : TermValue)
+        → order (walk_place slots j) (walk_place slots k) ≡ ordering_then (nat_cmp (slot_of_key slots j) (slot_of_key slots k)) (order j k) }
+    ensures in_order { (slots : ℕ) (table : Table) → IsSortedByKey (walk_place slots) order (walked_keys slots table) }
+{}
+
+/// Each key that has objects is walked once, and no other.
+#[tactic(auto, using(crate::specs::Walks::key_walked, crate::specs::Walks::keys_once))]
+pub fn each_member_is_walked_once()
+    ensures members { (slots : ℕ) (table : Table) (k : TermValue) → list_any (is_same k) (walked_keys slots table) ≡ is_member table k }
+    ensures once { (slots : ℕ) (table : Table) → repeats (walked_keys slots table) ≡ false }
+{}
+
+/// A walk meets the objects of a table, each as often as it is there.
+pub fn a_walk_meets_the_objects_of_the_table()
+    ensures { (slots : ℕ) (table : Table) → list_all (is_object table.keypos) table.objects ≡ true → IsPermutation table.objects (walked slots table) }
+{}
+
+/// Among the keys that a deletion touches each key is just where it is touched, and once.
+#[tactic(auto, using(crate::specs::Walks::touched_by_delete_is, crate::specs::Walks::touched_by_delete_once))]
+pub fn a_deletion_touches_each_key_once()
+    ensures exactly { (slots : ℕ) (test : TermValue → Bool) (table : Table) (k : TermValue)
+        → list_any (is_same k) (touched_by_delete slots table (delete_where test table)) ≡ is_touched table (delete_where test table) k }
+    ensures once { (slots : ℕ) (old new : Table) → repeats (touched_by_delete slots old new) ≡ false }
+{}
