@@ -6,14 +6,3 @@ pub mod Ledger
 pub mod LedgerOrder
 pub mod Scripts
 pub mod Slots
--- ---- lemmas
-pub mod Members
-pub mod Minima
-pub mod Places
-pub mod Reordered
-pub mod Pendings
-pub mod Serving
-pub mod Served
-pub mod Flushing
-pub mod Rooms
-pub mod Splits

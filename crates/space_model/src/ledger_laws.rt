@@ -1,13 +1,15 @@
 //! Laws of the ledger, as contracts of functions that do nothing.
-ghost use Rattle.std.specs.Prelude.{◌≡◌, ◌≤◌, ◌<◌, ℕ, ◌+◌, ◌*◌, ◌^◌, List, [], ◌∷◌, ◌++◌, cond, map, bytes_eq, option_map, Option, Some, None, Ok, Err, true, false};
+ghost use Rattle.std.specs.Prelude.{◌≡◌, ◌≤◌, ◌<◌, ℕ, ◌+◌, ◌*◌, ◌^◌, List, [], ◌∷◌, ◌++◌, cond, map, bytes_eq, option_map, Option, Some, None, Ok};
+ghost use Rattle.std.specs.Prelude.{Err, true, false};
 ghost use Rattle.space_model.specs.Least.{log2};
 ghost use Rattle.space_model.specs.Runs.{Run, place};
-ghost use Rattle.space_model.specs.Ledger.{unit_bytes, head_bytes, exponent, is_too_large, Pending, Packed, Ledger, Placed, Touch, held, made, is_pending, packed_of, with_pending, place_growing, serve, serve_all, after_command, flush};
+ghost use Rattle.space_model.specs.Ledger.{unit_bytes, head_bytes, exponent, is_too_large, Pending, Packed, Ledger, Placed, Touch, held, made};
+ghost use Rattle.space_model.specs.Ledger.{is_pending, packed_of, with_pending, place_growing, serve, serve_all, after_command, flush};
 ghost use Rattle.space_model.specs.LedgerOrder.{IsInOrder, IsFirstPlace, IsFull, Serves, HasBlock, keys_of, standing_run};
 
 /// A payload has room in the block of its exponent and in no smaller one, and one that is not too large needs a segment at
 /// most.
-#[tactic(auto, using(crate::specs::Rooms::has_room, crate::specs::Rooms::no_room_below, crate::specs::Rooms::fits_segment, crate::specs::Rooms::too_large))]
+#[tactic(auto, using(crate::proofs::Rooms::has_room, crate::proofs::Rooms::no_room_below, crate::proofs::Rooms::fits_segment, crate::proofs::Rooms::too_large))]
 pub fn a_payload_has_room_in_the_least_block()
     ensures room { (bytes : ℕ) → head_bytes + bytes ≤ unit_bytes * 2 ^ exponent bytes }
     ensures no_smaller_one { (bytes exp : ℕ) → exp < exponent bytes → unit_bytes * 2 ^ exp < head_bytes + bytes }

@@ -42,14 +42,16 @@ pub fn segments_are_added_before_a_command_is_full()
 pub fn a_replaced_block_moves()
     ensures beside { held (after_each (flushed_after (made 1) (gets "a" 14 ∷ [])) (gets "a" 14 ∷ [])) ≡ run 0 0 ∷ run 1 0 ∷ [] }
     ensures flushed { held (flushed_after (flushed_after (made 1) (gets "a" 14 ∷ [])) (gets "a" 14 ∷ [])) ≡ run 1 0 ∷ [] }
-    ensures back { held (after_each (flushed_after (flushed_after (made 1) (gets "a" 14 ∷ [])) (gets "a" 14 ∷ [])) (gets "a" 14 ∷ [])) ≡ run 1 0 ∷ run 0 0 ∷ [] }
+    ensures back { held (after_each (flushed_after (flushed_after (made 1) (gets "a" 14 ∷ [])) (gets "a" 14 ∷ [])) (gets "a" 14 ∷ []))
+        ≡ run 1 0 ∷ run 0 0 ∷ [] }
 {}
 
 /// A pending block keeps its run where the exponent stays. Else the new run is placed while the old one is still held,
 /// and that one is free for the next key.
 pub fn a_pending_block_moves_where_its_exponent_changes()
     ensures stays { held (after_each (made 1) (gets "a" 14 ∷ gets "a" 40 ∷ [])) ≡ run 0 0 ∷ [] }
-    ensures with_its_new_length { packed_of (after_each (made 1) (gets "a" 14 ∷ gets "a" 40 ∷ [])).pending (codes "a") ≡ Some (record { bytes = 40; run = run 0 0 }) }
+    ensures with_its_new_length { packed_of (after_each (made 1) (gets "a" 14 ∷ gets "a" 40 ∷ [])).pending (codes "a")
+        ≡ Some (record { bytes = 40; run = run 0 0 }) }
     ensures larger { held (after_each (made 1) (gets "a" 14 ∷ gets "a" 60 ∷ [])) ≡ run 2 1 ∷ [] }
     ensures smaller { held (after_each (made 1) (gets "a" 60 ∷ gets "a" 14 ∷ [])) ≡ run 2 0 ∷ [] }
     ensures given_back { held (after_command 16 (after_each (made 1) (gets "a" 14 ∷ [])) (gets "a" 60 ∷ gets "b" 14 ∷ [])) ≡ run 2 1 ∷ run 0 0 ∷ [] }
@@ -71,7 +73,8 @@ pub fn a_flush_files_segments_and_blocks()
     ensures not_filed_before { (after_each (made 3) (gets "a" 14 ∷ [])).filed ≡ 0 }
     ensures keeps_others { flushed_after (flushed_after (made 3) (gets "a" 14 ∷ gets "b" 14 ∷ [])) (gets "b" 60 ∷ [])
         ≡ opened 3 1 (record { key = codes "a"; run = run 0 0 } ∷ record { key = codes "b"; run = run 2 1 } ∷ []) }
-    ensures nothing_pending { flush (opened 3 1 (record { key = codes "a"; run = run 0 0 } ∷ [])) ≡ opened 3 1 (record { key = codes "a"; run = run 0 0 } ∷ []) }
+    ensures nothing_pending { flush (opened 3 1 (record { key = codes "a"; run = run 0 0 } ∷ []))
+        ≡ opened 3 1 (record { key = codes "a"; run = run 0 0 } ∷ []) }
 {}
 
 /// At least 4,096 pending keys, or 1,048,576 bytes of pending blocks with their heads.

@@ -4,13 +4,13 @@ ghost use Rattle.space_model.specs.Least.{log2};
 ghost use Rattle.space_model.specs.Slots.{slot_of};
 
 /// A slot is one of the slots.
-#[tactic(auto, using(crate::specs::Splits::slot_below))]
+#[tactic(auto, using(crate::proofs::Splits::slot_below))]
 pub fn a_slot_is_below_the_number_of_slots()
     ensures { (hash slots : ℕ) → 1 ≤ slots → slot_of hash slots < slots }
 {}
 
 /// With one more slot a hash keeps its slot, unless it comes from the one slot that is split into the new one.
-#[tactic(auto, using(crate::specs::Splits::grown))]
+#[tactic(auto, using(crate::proofs::Splits::grown))]
 pub fn one_more_slot_splits_one_slot()
     ensures { (hash slots : ℕ) → 1 ≤ slots
         → (slot_of hash (slots + 1) ≡ slot_of hash slots) ⊎ ((slot_of hash (slots + 1) ≡ slots) × (slot_of hash slots ≡ slots - 2 ^ log2 slots)) }

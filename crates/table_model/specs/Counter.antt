@@ -1,6 +1,7 @@
 -- A counter: an integer in an object of a set, after update_counter/3 of the dets reference manual. The range of
 -- integers is this project's own.
-use Rattle.std.specs.Prelude.{◌≡◌, ℕ, zero, suc, ◌^◌, ℤ, pos, negsuc, ◌+ℤ◌, Bool, false, cond, ◌==◌, nat_lt, find, slice_set, List, [], ◌∷◌, Option, Some, None, Result, Ok, Err}
+use Rattle.std.specs.Prelude.{◌≡◌, ℕ, zero, suc, ◌^◌, ℤ, pos, negsuc, ◌+ℤ◌, Bool, false, cond, ◌==◌, nat_lt, find, slice_set, List, [], ◌∷◌, Option}
+use Rattle.std.specs.Prelude.{Some, None, Result, Ok, Err}
 use Rattle.term_model.specs.TermValue.{TermValue, integer, tuple, nil, chain, elements, key}
 use Rattle.term_model.specs.Order.{is_same}
 use Rattle.table_model.specs.Table.{Table, has_key, objects_of, insert_object}

@@ -11,6 +11,10 @@ use Rattle.table_model.specs.Operations.{insert_objects}
 abbrev pub filled : Kind → ℕ → List TermValue → Table
 filled kind keypos objects = insert_objects (empty_table kind keypos) objects
 
+-- {a,1}, {a,1}, {b,1} and {a,2}
+abbrev pub four_objects : List TermValue
+four_objects = pair (word "a") (number 1) ∷ pair (word "a") (number 1) ∷ pair (word "b") (number 1) ∷ pair (word "a") (number 2) ∷ []
+
 -- {1,x}, {2,x} and then {1,y}
 abbrev pub numbered_set : Table
 numbered_set = filled Set 1 (pair (number 1) (word "x") ∷ pair (number 2) (word "x") ∷ pair (number 1) (word "y") ∷ [])

@@ -8,9 +8,3 @@ pub mod Allowed
 pub mod Filled
 -- ---- lemmas
 pub mod Sets
-pub mod Inserted
-pub mod Deleted
-pub mod TouchedKeys
-pub mod Counters
-pub mod Walks
-pub mod AllowedKept

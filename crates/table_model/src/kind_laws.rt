@@ -23,7 +23,7 @@ pub fn a_table_keeps_what_its_kind_allows()
 {}
 
 /// A set has one object of a key at most, and a bag no two equal ones.
-#[tactic(auto, using(crate::specs::AllowedKept::one_in_a_set, crate::specs::AllowedKept::once_in_a_bag))]
+#[tactic(auto, using(crate::proofs::AllowedKept::one_in_a_set, crate::proofs::AllowedKept::once_in_a_bag))]
 pub fn a_kind_limits_the_objects_of_a_key()
     ensures set { (table : Table) (k : TermValue) → table.kind ≡ Set → IsTable table → length (objects_of table k) ≤ 1 }
     ensures bag { (table : Table) (k : TermValue) → table.kind ≡ Bag → IsTable table → repeats (objects_of table k) ≡ false }

@@ -7,12 +7,13 @@ ghost use Rattle.term_model.specs.Order.{is_same};
 ghost use Rattle.term_model.specs.declared.kind.Kind.TheVariants.{Set, Bag, DuplicateBag};
 ghost use Rattle.term_model.specs.Pairs.{repeats};
 ghost use Rattle.table_model.specs.Table.{Table, has_key, objects_of, insert_object};
-ghost use Rattle.table_model.specs.Operations.{insert_objects, is_member, are_new, KnownKey, insert_new_objects, delete_where, delete_key, delete_object, delete_all_objects};
+ghost use Rattle.table_model.specs.Operations.{insert_objects, is_member, are_new, KnownKey, insert_new_objects, delete_where, delete_key};
+ghost use Rattle.table_model.specs.Operations.{delete_object, delete_all_objects};
 ghost use Rattle.table_model.specs.Counter.{Counted, update_counter, Increments};
 ghost use Rattle.table_model.specs.Touched.{is_touched, touched_by_insert};
 
 /// A key that no inserted object has keeps its objects.
-#[tactic(auto, using(crate::specs::Inserted::other_keys_kept, crate::specs::Inserted::other_keys_kept_by_all))]
+#[tactic(auto, using(crate::proofs::Inserted::other_keys_kept, crate::proofs::Inserted::other_keys_kept_by_all))]
 pub fn inserts_leave_other_keys()
     ensures one_object { (table : Table) (object k : TermValue) → has_key table.keypos k object ≡ false
         → objects_of (insert_object table object) k ≡ objects_of table k }
@@ -21,7 +22,7 @@ pub fn inserts_leave_other_keys()
 {}
 
 /// A bag has one object more of the key of an inserted object, unless that object is there: then nothing changes.
-#[tactic(auto, using(crate::specs::Inserted::new_in_a_bag, crate::specs::Inserted::there_in_a_bag))]
+#[tactic(auto, using(crate::proofs::Inserted::new_in_a_bag, crate::proofs::Inserted::there_in_a_bag))]
 pub fn a_bag_gets_an_object_that_is_not_there()
     ensures new { (table : Table) (object k : TermValue) → table.kind ≡ Bag → list_any (is_same object) table.objects ≡ false
         → key object table.keypos ≡ Some k → IsPermutation (object ∷ objects_of table k) (objects_of (insert_object table object) k) }
@@ -30,14 +31,14 @@ pub fn a_bag_gets_an_object_that_is_not_there()
 {}
 
 /// A duplicate bag has one object more of the key of an inserted object.
-#[tactic(auto, using(crate::specs::Inserted::in_a_duplicate_bag))]
+#[tactic(auto, using(crate::proofs::Inserted::in_a_duplicate_bag))]
 pub fn a_duplicate_bag_gets_each_object()
     ensures { (table : Table) (object k : TermValue) → table.kind ≡ DuplicateBag → key object table.keypos ≡ Some k
         → IsPermutation (object ∷ objects_of table k) (objects_of (insert_object table object) k) }
 {}
 
 /// A key is a member of a table just where it has objects.
-#[tactic(auto, using(crate::specs::Deleted::absent_has_none, crate::specs::Deleted::member_has_some))]
+#[tactic(auto, using(crate::proofs::Deleted::absent_has_none, crate::proofs::Deleted::member_has_some))]
 pub fn a_member_has_objects()
     ensures absent { (table : Table) (k : TermValue) → is_member table k ≡ false → objects_of table k ≡ [] }
     ensures no_objects { (table : Table) (k : TermValue) → objects_of table k ≡ [] → is_member table k ≡ false }
@@ -45,7 +46,7 @@ pub fn a_member_has_objects()
 
 /// Where all objects of a list are new, the table has none with their keys; else one of their keys is a member, and
 /// nothing changes.
-#[tactic(auto, using(crate::specs::Deleted::new_keys, crate::specs::Deleted::known_key))]
+#[tactic(auto, using(crate::proofs::Deleted::new_keys, crate::proofs::Deleted::known_key))]
 pub fn new_objects_have_keys_that_are_absent()
     ensures absent { (table : Table) (objects : List TermValue) (k : TermValue) → are_new table objects ≡ true
         → list_any (has_key table.keypos k) objects ≡ true → is_member table k ≡ false }
@@ -56,7 +57,7 @@ pub fn new_objects_have_keys_that_are_absent()
 {}
 
 /// A deletion leaves no object that passes its test, and of the others each as often and in the order in which they were.
-#[tactic(auto, using(crate::specs::Deleted::deleted, crate::specs::Deleted::not_deleted))]
+#[tactic(auto, using(crate::proofs::Deleted::deleted, crate::proofs::Deleted::not_deleted))]
 pub fn a_deletion_leaves_what_fails_its_test()
     ensures gone { (test : TermValue → Bool) (table : Table) → filter test (delete_where test table).objects ≡ [] }
     ensures others { (test p : TermValue → Bool) (table : Table) → ((object : TermValue) → test object ≡ true → p object ≡ false)
@@ -64,7 +65,7 @@ pub fn a_deletion_leaves_what_fails_its_test()
 {}
 
 /// A deleted key has no objects, and other keys keep theirs.
-#[tactic(auto, using(crate::specs::Deleted::deleted_key, crate::specs::Deleted::other_keys_not_deleted))]
+#[tactic(auto, using(crate::proofs::Deleted::deleted_key, crate::proofs::Deleted::other_keys_not_deleted))]
 pub fn a_deleted_key_has_no_objects()
     ensures gone { (table : Table) (k : TermValue) → objects_of (delete_key table k) k ≡ [] }
     ensures other_keys { (table : Table) (j k : TermValue) → is_same j k ≡ false → objects_of (delete_key table j) k ≡ objects_of table k }
@@ -72,20 +73,20 @@ pub fn a_deleted_key_has_no_objects()
 {}
 
 /// Keys that a deleted object does not have keep their objects.
-#[tactic(auto, using(crate::specs::Deleted::other_objects_not_deleted))]
+#[tactic(auto, using(crate::proofs::Deleted::other_objects_not_deleted))]
 pub fn a_deleted_object_leaves_other_keys()
     ensures { (table : Table) (object k : TermValue) → has_key table.keypos k object ≡ false → objects_of (delete_object table object) k ≡ objects_of table k }
 {}
 
 /// A key is touched just where its objects change.
-#[tactic(auto, using(crate::specs::TouchedKeys::untouched, crate::specs::TouchedKeys::touched))]
+#[tactic(auto, using(crate::proofs::TouchedKeys::untouched, crate::proofs::TouchedKeys::touched))]
 pub fn a_key_is_touched_where_its_objects_change()
     ensures same { (old new : Table) (k : TermValue) → is_touched old new k ≡ false → objects_of new k ≡ objects_of old k }
     ensures other { (old new : Table) (k : TermValue) → is_touched old new k ≡ true → objects_of new k ≡ objects_of old k → ⊥ }
 {}
 
 /// Among the keys that an insert touches each key is just where it is touched, and once.
-#[tactic(auto, using(crate::specs::TouchedKeys::touched_by_insert_is, crate::specs::TouchedKeys::touched_once))]
+#[tactic(auto, using(crate::proofs::TouchedKeys::touched_by_insert_is, crate::proofs::TouchedKeys::touched_once))]
 pub fn an_insert_touches_each_key_once()
     ensures exactly { (objects : List TermValue) (table : Table) (k : TermValue)
         → list_any (is_same k) (touched_by_insert objects table (insert_objects table objects)) ≡ is_touched table (insert_objects table objects) k }
@@ -93,7 +94,7 @@ pub fn an_insert_touches_each_key_once()
 {}
 
 /// Where the counter of a key in a set is updated, its object has the new integer in that place, and is the one of the key.
-#[tactic(auto, using(crate::specs::Counters::increments))]
+#[tactic(auto, using(crate::proofs::Counters::increments))]
 pub fn a_counter_is_the_old_one_and_the_increment()
     ensures { (table : Table) (k : TermValue) (place increment : ℤ) (new : Counted) → table.kind ≡ Set
         → update_counter table k place increment ≡ Ok new → Increments table k place increment new }

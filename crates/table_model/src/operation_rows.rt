@@ -4,19 +4,19 @@ ghost use Rattle.term_model.specs.TermValue.{integer, nil};
 ghost use Rattle.term_model.specs.Written.{word, number, tuple_of, pair};
 ghost use Rattle.term_model.specs.declared.kind.Kind.TheVariants.{Set, Bag, DuplicateBag};
 ghost use Rattle.table_model.specs.Table.{empty_table, has_key};
-ghost use Rattle.table_model.specs.Operations.{insert_objects, is_member, are_new, insert_new_objects, delete_where, delete_key, delete_object, delete_all_objects};
+ghost use Rattle.table_model.specs.Operations.{insert_objects, is_member, are_new, insert_new_objects, delete_where, delete_key, delete_object};
+ghost use Rattle.table_model.specs.Operations.{delete_all_objects};
 ghost use Rattle.table_model.specs.Counter.{update_counter, usual_place, is_in_range, NoCounter, OutOfRange};
 ghost use Rattle.table_model.specs.Touched.{keys_of, touched_by_insert, touched_among};
-ghost use Rattle.table_model.specs.Filled.{filled, numbered_set, second_place_set, small_bag};
+ghost use Rattle.table_model.specs.Filled.{filled, four_objects, numbered_set, second_place_set, small_bag};
 
 /// The list `{a,1}`, `{a,1}`, `{b,1}` and `{a,2}`, inserted into an empty table of each kind.
 pub fn the_same_inserts_into_tables_of_each_kind()
-    ensures set { (filled Set 1 (pair (word "a") (number 1) ∷ pair (word "a") (number 1) ∷ pair (word "b") (number 1) ∷ pair (word "a") (number 2) ∷ [])).objects
+    ensures set { (filled Set 1 four_objects).objects
         ≡ pair (word "b") (number 1) ∷ pair (word "a") (number 2) ∷ [] }
-    ensures bag { (filled Bag 1 (pair (word "a") (number 1) ∷ pair (word "a") (number 1) ∷ pair (word "b") (number 1) ∷ pair (word "a") (number 2) ∷ [])).objects
+    ensures bag { (filled Bag 1 four_objects).objects
         ≡ pair (word "a") (number 1) ∷ pair (word "b") (number 1) ∷ pair (word "a") (number 2) ∷ [] }
-    ensures duplicate_bag { (filled DuplicateBag 1 (pair (word "a") (number 1) ∷ pair (word "a") (number 1) ∷ pair (word "b") (number 1) ∷ pair (word "a") (number 2) ∷ [])).objects
-        ≡ pair (word "a") (number 1) ∷ pair (word "a") (number 1) ∷ pair (word "b") (number 1) ∷ pair (word "a") (number 2) ∷ [] }
+    ensures duplicate_bag { (filled DuplicateBag 1 four_objects).objects ≡ four_objects }
     ensures empty_list { insert_objects numbered_set [] ≡ numbered_set }
 {}
 

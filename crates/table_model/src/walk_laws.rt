@@ -13,7 +13,7 @@ ghost use Rattle.table_model.specs.Touched.{is_touched};
 ghost use Rattle.table_model.specs.Walk.{slot_of_key, slots_after, walk_place, walked_keys, walked, touched_by_delete};
 
 /// Keys are walked by their slots, and in a slot by the order of terms.
-#[tactic(auto, using(crate::specs::Walks::place_order))]
+#[tactic(auto, using(crate::proofs::Walks::place_order))]
 pub fn keys_are_walked_by_slot_and_then_by_term()
     ensures order { (slots : ℕ) (j k : TermValue)
         → order (walk_place slots j) (walk_place slots k) ≡ ordering_then (nat_cmp (slot_of_key slots j) (slot_of_key slots k)) (order j k) }
@@ -21,7 +21,7 @@ pub fn keys_are_walked_by_slot_and_then_by_term()
 {}
 
 /// Each key that has objects is walked once, and no other.
-#[tactic(auto, using(crate::specs::Walks::key_walked, crate::specs::Walks::keys_once))]
+#[tactic(auto, using(crate::proofs::Walks::key_walked, crate::proofs::Walks::keys_once))]
 pub fn each_member_is_walked_once()
     ensures members { (slots : ℕ) (table : Table) (k : TermValue) → list_any (is_same k) (walked_keys slots table) ≡ is_member table k }
     ensures once { (slots : ℕ) (table : Table) → repeats (walked_keys slots table) ≡ false }
@@ -33,7 +33,7 @@ pub fn a_walk_meets_the_objects_of_the_table()
 {}
 
 /// Among the keys that a deletion touches each key is just where it is touched, and once.
-#[tactic(auto, using(crate::specs::Walks::touched_by_delete_is, crate::specs::Walks::touched_by_delete_once))]
+#[tactic(auto, using(crate::proofs::Walks::touched_by_delete_is, crate::proofs::Walks::touched_by_delete_once))]
 pub fn a_deletion_touches_each_key_once()
     ensures exactly { (slots : ℕ) (test : TermValue → Bool) (table : Table) (k : TermValue)
         → list_any (is_same k) (touched_by_delete slots table (delete_where test table)) ≡ is_touched table (delete_where test table) k }

@@ -22,7 +22,8 @@ pub fn a_walk_goes_by_slots()
     ensures keys { walked_keys 256 small_set ≡ number 2 ∷ number 1 ∷ number 3 ∷ [] }
     ensures objects { walked 256 small_set ≡ pair (number 2) (word "x") ∷ pair (number 1) (word "x") ∷ pair (number 3) (word "x") ∷ [] }
     ensures one_slot { walked_keys 1 small_set ≡ number 1 ∷ number 2 ∷ number 3 ∷ [] }
-    ensures other_kinds { walked_keys 1 (filled Set 1 (pair (list_of []) nil ∷ pair (word "a") nil ∷ pair (number 7) nil ∷ [])) ≡ number 7 ∷ word "a" ∷ nil ∷ [] }
+    ensures other_kinds { walked_keys 1 (filled Set 1 (pair (list_of []) nil ∷ pair (word "a") nil ∷ pair (number 7) nil ∷ []))
+        ≡ number 7 ∷ word "a" ∷ nil ∷ [] }
     ensures without_a_key { walked_keys 256 (delete_key small_set (number 1)) ≡ number 2 ∷ number 3 ∷ [] }
     ensures nothing { walked 256 (empty_table Set 1) ≡ [] }
 {}

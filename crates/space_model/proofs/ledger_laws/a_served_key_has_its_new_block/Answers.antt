@@ -1,4 +1,4 @@
-use Rattle.space_model.specs.Served.{served_packed, served_none, served_other, served_order}
+use Rattle.space_model.proofs.Served.{served_packed, served_none, served_other, served_order}
 use Rattle.space_model.proofs.ledger_laws.a_served_key_has_its_new_block.Goals as goal
 
 pub returns-clause-block : goal.returns-clause-block

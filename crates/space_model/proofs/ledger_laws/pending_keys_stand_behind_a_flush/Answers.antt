@@ -1,4 +1,4 @@
-use Rattle.space_model.specs.Flushing.{flushed_pending, flushed_other}
+use Rattle.space_model.proofs.Flushing.{flushed_pending, flushed_other}
 use Rattle.space_model.proofs.ledger_laws.pending_keys_stand_behind_a_flush.Goals as goal
 
 pub returns-clause-pending : goal.returns-clause-pending

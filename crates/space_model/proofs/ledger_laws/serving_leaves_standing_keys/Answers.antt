@@ -1,4 +1,4 @@
-use Rattle.space_model.specs.Serving.{serve_only, all_only}
+use Rattle.space_model.proofs.Serving.{serve_only, all_only}
 use Rattle.space_model.proofs.ledger_laws.serving_leaves_standing_keys.Goals as goal
 
 pub returns-clause-touch : goal.returns-clause-touch

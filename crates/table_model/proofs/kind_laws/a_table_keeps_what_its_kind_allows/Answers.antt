@@ -1,4 +1,4 @@
-use Rattle.table_model.specs.AllowedKept.{empty_allowed, inserts_allowed, insert_new_allowed, delete_allowed, counter_allowed}
+use Rattle.table_model.proofs.AllowedKept.{empty_allowed, inserts_allowed, insert_new_allowed, delete_allowed, counter_allowed}
 use Rattle.table_model.proofs.kind_laws.a_table_keeps_what_its_kind_allows.Goals as goal
 
 pub returns-clause-empty : goal.returns-clause-empty

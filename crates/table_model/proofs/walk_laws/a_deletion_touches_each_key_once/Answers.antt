@@ -1,4 +1,4 @@
-use Rattle.table_model.specs.Walks.{touched_by_delete_is}
+use Rattle.table_model.proofs.Walks.{touched_by_delete_is}
 use Rattle.table_model.proofs.walk_laws.a_deletion_touches_each_key_once.Goals as goal
 
 pub returns-clause-exactly : goal.returns-clause-exactly

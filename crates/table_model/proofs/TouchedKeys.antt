@@ -10,7 +10,7 @@ use Rattle.term_model.specs.Same.{equal_from_same, same_self, same_by}
 use Rattle.table_model.specs.Table.{Table, has_key, is_key, objects_of}
 use Rattle.table_model.specs.Operations.{insert_objects}
 use Rattle.table_model.specs.Touched.{distinct, keys_of, are_same, is_touched, touched_among, touched_by_insert}
-use Rattle.table_model.specs.Inserted.{other_keys_kept_by_all}
+use Rattle.table_model.proofs.Inserted.{other_keys_kept_by_all}
 
 -- ---- equal lists
 
@@ -52,7 +52,8 @@ pub any-filter_none : {A : Type 0} (p q : A → Bool) (xs : List A) → list_any
 any-filter_none p q [] e = refl
 any-filter_none p q (x ∷ xs) e = let parts = or_parts (p x) (list_any p xs) e in by_test p x (filter q xs) (q x) parts.0 (any-filter_none p q xs parts.1)
   where
-    by_test : {A : Type 0} (p : A → Bool) (x : A) (kept : List A) (b : Bool) → p x ≡ false → list_any p kept ≡ false → list_any p (cond b (x ∷ kept) kept) ≡ false
+    by_test : {A : Type 0} (p : A → Bool) (x : A) (kept : List A) (b : Bool) → p x ≡ false → list_any p kept ≡ false
+        → list_any p (cond b (x ∷ kept) kept) ≡ false
     by_test p x kept true here rest = or_from (p x) (list_any p kept) here rest
     by_test p x kept false here rest = rest
 
@@ -60,7 +61,8 @@ pub none_left : {A : Type 0} (p : A → Bool) (xs : List A) → list_any p (filt
 none_left p [] = refl
 none_left p (x ∷ xs) = by_test p x (filter (λ y. not (p y)) xs) (p x) refl (none_left p xs)
   where
-    by_test : {A : Type 0} (p : A → Bool) (x : A) (kept : List A) (b : Bool) → p x ≡ b → list_any p kept ≡ false → list_any p (cond (not b) (x ∷ kept) kept) ≡ false
+    by_test : {A : Type 0} (p : A → Bool) (x : A) (kept : List A) (b : Bool) → p x ≡ b → list_any p kept ≡ false
+        → list_any p (cond (not b) (x ∷ kept) kept) ≡ false
     by_test p x kept true e rest = rest
     by_test p x kept false e rest = or_from (p x) (list_any p kept) e rest
 
@@ -95,7 +97,8 @@ repeats-distinct (t ∷ ts) = or_from _ _ (none_left (is_same t) (distinct ts)) 
 
 -- ---- the keys of objects
 
-pub any-key : (k : TermValue) (found : Option TermValue) (ks : List TermValue) → list_any (is_same k) (cons_option found ks) ≡ (is_key k found || list_any (is_same k) ks)
+pub any-key : (k : TermValue) (found : Option TermValue) (ks : List TermValue)
+    → list_any (is_same k) (cons_option found ks) ≡ (is_key k found || list_any (is_same k) ks)
 any-key k None ks = refl
 any-key k (Some j) ks = ap (λ b. b || list_any (is_same k) ks) (same_flips k j)
 
@@ -142,4 +145,6 @@ touched_by_insert_is objects table k =
     ∙ inserted_or_same objects table k (list_any (has_key table.keypos k) objects) refl
 
 pub touched_once : (objects : List TermValue) (old new : Table) → repeats (touched_by_insert objects old new) ≡ false
-touched_once objects old new = repeats-filter (is_touched old new) (keys_of old.keypos objects) (repeats-distinct (filter_map (λ object. key object old.keypos) objects))
+touched_once objects old new =
+    repeats-filter (is_touched old new) (keys_of old.keypos objects)
+    (repeats-distinct (filter_map (λ object. key object old.keypos) objects))

@@ -7,7 +7,8 @@ use Rattle.std.specs.declared.cmp.Ordering.TheVariants.{Equal}
 use Rattle.std.specs.Ordering.{nat_cmp, ordering_then}
 use Rattle.std.proofs.lemmas.Bool.Decides.{nat_tests}
 use Rattle.std.proofs.lemmas.Bool.{or_parts, or_left, or_right, and_parts, and_from}
-use Rattle.std.proofs.lemmas.List.Sorted.{list_any-IsPermutation, IsPermutation-refl, IsPermutation-trans, IsPermutation-append, IsPermutation-append_right, IsPermutation-filter_both}
+use Rattle.std.proofs.lemmas.List.Sorted.{list_any-IsPermutation, IsPermutation-refl, IsPermutation-trans, IsPermutation-append}
+use Rattle.std.proofs.lemmas.List.Sorted.{IsPermutation-append_right, IsPermutation-filter_both}
 use Rattle.term_model.specs.TermValue.{TermValue, key}
 use Rattle.term_model.specs.Order.{order, is_same}
 use Rattle.term_model.specs.Same.{same_self}
@@ -22,9 +23,9 @@ use Rattle.table_model.specs.Operations.{is_member, delete_where}
 use Rattle.table_model.specs.Allowed.{is_object}
 use Rattle.table_model.specs.Touched.{is_touched}
 use Rattle.table_model.specs.Walk.{keys_in, slot_of_key, walk_place, walked_keys, walked, touched_by_delete}
-use Rattle.table_model.specs.Inserted.{filter-without, one_key}
-use Rattle.table_model.specs.Deleted.{absent_has_none}
-use Rattle.table_model.specs.TouchedKeys.{any-keys_of, any-touched_among, any-filter_none, not_touched, repeats-distinct, repeats-filter}
+use Rattle.table_model.proofs.Inserted.{filter-without, one_key}
+use Rattle.table_model.proofs.Deleted.{absent_has_none}
+use Rattle.table_model.proofs.TouchedKeys.{any-keys_of, any-touched_among, any-filter_none, not_touched, repeats-distinct, repeats-filter}
 
 -- ---- the objects of some keys
 
@@ -74,7 +75,8 @@ each_ascending : (keypos : ℕ) (ks xs : List TermValue)
 each_ascending keypos [] xs = IsPermutation-refl []
 each_ascending keypos (k ∷ ks) xs =
     IsPermutation-append (filter (has_key keypos k) xs) (ascending (filter (has_key keypos k) xs)) (flat_map (λ j. filter (has_key keypos j) xs) ks)
-    (flat_map (λ j. ascending (filter (has_key keypos j) xs)) ks) (IsPermutation-sorted_by (λ t. t) (filter (has_key keypos k) xs)) (each_ascending keypos ks xs)
+    (flat_map (λ j. ascending (filter (has_key keypos j) xs)) ks)
+    (IsPermutation-sorted_by (λ t. t) (filter (has_key keypos k) xs)) (each_ascending keypos ks xs)
 
 -- ---- the keys of a walk
 
@@ -119,10 +121,12 @@ objects_walked slots table e =
 -- ---- deletions
 
 -- an absent key stays absent
-none_from_deletion : (test : TermValue → Bool) (table : Table) (k : TermValue) → is_member table k ≡ false → is_touched table (delete_where test table) k ≡ false
+none_from_deletion : (test : TermValue → Bool) (table : Table) (k : TermValue) → is_member table k ≡ false
+    → is_touched table (delete_where test table) k ≡ false
 none_from_deletion test table k e =
     not_touched table (delete_where test table) k
-    (absent_has_none (delete_where test table) k (any-filter_none (has_key table.keypos k) (λ x. not (test x)) table.objects e) ∙ sym (absent_has_none table k e))
+    (absent_has_none (delete_where test table) k (any-filter_none (has_key table.keypos k) (λ x. not (test x)) table.objects e)
+    ∙ sym (absent_has_none table k e))
 
 member_or_same : (test : TermValue → Bool) (table : Table) (k : TermValue) (b : Bool) → is_member table k ≡ b
     → (b && is_touched table (delete_where test table) k) ≡ is_touched table (delete_where test table) k

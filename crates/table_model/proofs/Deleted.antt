@@ -12,7 +12,7 @@ use Rattle.term_model.specs.Same.{equal_from_same, same_self}
 use Rattle.table_model.specs.Table.{Table, has_key, is_key, shares_key, objects_of}
 use Rattle.table_model.specs.Operations.{is_member, has_new_key, are_new, delete_where, delete_key, delete_object, KnownKey}
 use Rattle.table_model.specs.Sets.{filter_others}
-use Rattle.table_model.specs.Inserted.{filter-without, one_key}
+use Rattle.table_model.proofs.Inserted.{filter-without, one_key}
 
 -- ---- members
 

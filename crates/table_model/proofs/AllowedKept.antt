@@ -1,5 +1,6 @@
 -- Lemmas: each operation leaves a table with objects that its kind allows.
-use Rattle.std.proofs.Common.{◌≡◌, ◌≤◌, ℕ, Bool, true, false, cond, not, List, [], ◌∷◌, ◌++◌, filter, length, Option, Some, None, Ok, refl, sym, ap, ◌∙◌, subst, arith}
+use Rattle.std.proofs.Common.{◌≡◌, ◌≤◌, ℕ, Bool, true, false, cond, not, List, [], ◌∷◌, ◌++◌, filter, length, Option, Some, None, Ok, refl, sym, ap}
+use Rattle.std.proofs.Common.{◌∙◌, subst, arith}
 use Rattle.std.specs.Prelude.{ℤ, filter_map, is_some}
 use Rattle.std.specs.List.{list_any, list_all, cons_option}
 use Rattle.std.proofs.lemmas.Bool.{or_parts, or_from, and_parts, and_from, not-true, not_from_false}
@@ -18,9 +19,9 @@ use Rattle.table_model.specs.Table.{Table, empty_table, has_key, shares_key, obj
 use Rattle.table_model.specs.Operations.{insert_objects, are_new, insert_new_objects, delete_where}
 use Rattle.table_model.specs.Allowed.{is_object, allows, IsTable}
 use Rattle.table_model.specs.Counter.{Counted, update_counter}
-use Rattle.table_model.specs.Counters.{updated, key_found}
-use Rattle.table_model.specs.Deleted.{filter_none}
-use Rattle.table_model.specs.TouchedKeys.{same_flips, any-filter_none, any-found, none_left, repeats-filter}
+use Rattle.table_model.proofs.Counters.{updated, key_found}
+use Rattle.table_model.proofs.Deleted.{filter_none}
+use Rattle.table_model.proofs.TouchedKeys.{same_flips, any-filter_none, any-found, none_left, repeats-filter}
 
 -- ---- repeats
 
@@ -29,9 +30,11 @@ repeats-push [] u once none = refl
 repeats-push (t ∷ ts) u once none =
     let first = or_parts (list_any (is_same t) ts) (repeats ts) once in
     let apart = or_parts (is_same u t) (list_any (is_same u) ts) none in
-    or_from (list_any (is_same t) (ts ++ u ∷ [])) (repeats (ts ++ u ∷ [])) (behind t ts u first.0 (same_flips t u ∙ apart.0)) (repeats-push ts u first.1 apart.1)
+    or_from (list_any (is_same t) (ts ++ u ∷ [])) (repeats (ts ++ u ∷ [])) (behind t ts u first.0 (same_flips t u ∙ apart.0))
+    (repeats-push ts u first.1 apart.1)
   where
-    behind : (t : TermValue) (ts : List TermValue) (u : TermValue) → list_any (is_same t) ts ≡ false → is_same t u ≡ false → list_any (is_same t) (ts ++ u ∷ []) ≡ false
+    behind : (t : TermValue) (ts : List TermValue) (u : TermValue) → list_any (is_same t) ts ≡ false → is_same t u ≡ false
+        → list_any (is_same t) (ts ++ u ∷ []) ≡ false
     behind t [] u none e = or_from (is_same t u) false e refl
     behind t (s ∷ ss) u none e = let p = or_parts (is_same t s) (list_any (is_same t) ss) none in
         or_from (is_same t s) (list_any (is_same t) (ss ++ u ∷ [])) p.0 (behind t ss u p.1 e)
@@ -58,7 +61,8 @@ fewer_keys keypos test (o ∷ objects) once =
     let p = repeats-option (key o keypos) (found keypos objects) once in
     by_test (test o) o objects p.0 (fewer_keys keypos test objects p.1)
   where
-    by_test : (b : Bool) (o : TermValue) (objects : List TermValue) → ((k : TermValue) → key o keypos ≡ Some k → list_any (is_same k) (found keypos objects) ≡ false)
+    by_test : (b : Bool) (o : TermValue) (objects : List TermValue)
+        → ((k : TermValue) → key o keypos ≡ Some k → list_any (is_same k) (found keypos objects) ≡ false)
         → repeats (found keypos (filter test objects)) ≡ false → repeats (found keypos (cond b (o ∷ filter test objects) (filter test objects))) ≡ false
     by_test false o objects none rest = rest
     by_test true o objects none rest =
@@ -77,7 +81,8 @@ fewer_objects : (keypos : ℕ) (test : TermValue → Bool) (objects : List TermV
     → list_all (is_object keypos) (filter test objects) ≡ true
 fewer_objects keypos test [] e = refl
 fewer_objects keypos test (o ∷ objects) e =
-    let p = and_parts (is_object keypos o) (list_all (is_object keypos) objects) e in by_test (test o) o (filter test objects) p.0 (fewer_objects keypos test objects p.1)
+    let p = and_parts (is_object keypos o) (list_all (is_object keypos) objects) e in
+    by_test (test o) o (filter test objects) p.0 (fewer_objects keypos test objects p.1)
   where
     by_test : (b : Bool) (o : TermValue) (kept : List TermValue) → is_object keypos o ≡ true → list_all (is_object keypos) kept ≡ true
         → list_all (is_object keypos) (cond b (o ∷ kept) kept) ≡ true
@@ -130,7 +135,8 @@ none_shares : (keypos : ℕ) (objects : List TermValue) (mine : Option TermValue
 none_shares keypos objects None k e = cc
 none_shares keypos objects (Some j) k e =
     let same : k ≡ j = cc e in
-    subst (λ (t : TermValue). list_any (has_key keypos t) (filter (λ other. not (has_key keypos j other)) objects) ≡ false) (sym same) (none_left (has_key keypos j) objects)
+    subst (λ (t : TermValue). list_any (has_key keypos t) (filter (λ other. not (has_key keypos j other)) objects) ≡ false) (sym same)
+    (none_left (has_key keypos j) objects)
 
 allowed_with : (kind : Kind) (keypos : ℕ) (objects : List TermValue) (o : TermValue) → allows kind keypos objects ≡ true
     → allows kind keypos (with_object kind keypos objects o) ≡ true
@@ -197,7 +203,8 @@ one_at_most keypos (o ∷ objects) k once =
         let empty : length (filter (has_key keypos k) objects) ≡ 0 = ap length (filter_none (has_key keypos k) objects absent) in
         omega (arith, empty)
 
-allowed_in : (kind wanted : Kind) (keypos : ℕ) (objects : List TermValue) → kind ≡ wanted → allows kind keypos objects ≡ true → allows wanted keypos objects ≡ true
+allowed_in : (kind wanted : Kind) (keypos : ℕ) (objects : List TermValue) → kind ≡ wanted → allows kind keypos objects ≡ true
+    → allows wanted keypos objects ≡ true
 allowed_in kind wanted keypos objects e is = subst (λ (d : Kind). allows d keypos objects ≡ true) e is
 
 pub one_in_a_set : (table : Table) (k : TermValue) → table.kind ≡ Set → IsTable table → length (objects_of table k) ≤ 1

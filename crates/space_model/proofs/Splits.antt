@@ -7,7 +7,7 @@ use Rattle.std.proofs.lemmas.Nat.{pow_pos, mod_below, mod-pow-add}
 use Rattle.std.proofs.lemmas.Bool.{cases_lt, cases_order, lt-ltb, le-ltb}
 use Rattle.space_model.specs.Least.{log2}
 use Rattle.space_model.specs.Slots.{slot_of}
-use Rattle.space_model.specs.Minima.{log2_above, log2_below}
+use Rattle.space_model.proofs.Minima.{log2_above, log2_below}
 
 -- ---- powers
 
@@ -61,7 +61,9 @@ slot_below hash slots some =
     let x = hash % 2 ^ (b + 1) in
     let least = log2_below slots some in
     let less = mod_below hash (2 ^ b) (pow_pos b) in
-    ⊎_elim (λ (l : hash % 2 ^ (log2 slots + 1) < slots). subst (λ n. n < slots) (sym (chosen_low (hash % 2 ^ (log2 slots + 1)) slots (hash % 2 ^ log2 slots) l)) l)
+    ⊎_elim
+    (λ (l : hash % 2 ^ (log2 slots + 1) < slots).
+    subst (λ n. n < slots) (sym (chosen_low (hash % 2 ^ (log2 slots + 1)) slots (hash % 2 ^ log2 slots) l)) l)
     (λ (l : slots ≤ hash % 2 ^ (log2 slots + 1)).
     subst (λ n. n < slots) (sym (chosen_high (hash % 2 ^ (log2 slots + 1)) slots (hash % 2 ^ log2 slots) l)) (omega (arith, least, less)))
     (cases_lt (hash % 2 ^ (log2 slots + 1)) slots)

@@ -95,7 +95,8 @@ pairs_cross R [] ys p x y a b = absurd a
 pairs_cross R (z ∷ zs) ys p x y a b = ⊎_elim
     (λ here. subst (λ w. R w y) here (p.0 y (in_behind zs ys y b))) (λ later. pairs_cross R zs ys p.1 x y later b) a
 
-pub pairs_option : {X : Type 0} (R : X → X → Type 0) (o : Option X) (xs : List X) → ((x y : X) → o ≡ Some x → In y xs → R x y) → Pairs R xs → Pairs R (cons_option o xs)
+pub pairs_option : {X : Type 0} (R : X → X → Type 0) (o : Option X) (xs : List X) → ((x y : X) → o ≡ Some x → In y xs → R x y) → Pairs R xs
+    → Pairs R (cons_option o xs)
 pairs_option R None xs first rest = rest
 pairs_option R (Some x) xs first rest = (λ y a. first x y refl a, rest)
 
@@ -107,7 +108,8 @@ pub option_rest : {X : Type 0} (R : X → X → Type 0) (o : Option X) (xs : Lis
 option_rest R None xs p = p
 option_rest R (Some z) xs p = p.1
 
-filtered_pairs : {X : Type 0} (R : X → X → Type 0) (b : Bool) (x : X) (kept : List X) → ((y : X) → In y kept → R x y) → Pairs R kept → Pairs R (cond b (x ∷ kept) kept)
+filtered_pairs : {X : Type 0} (R : X → X → Type 0) (b : Bool) (x : X) (kept : List X) → ((y : X) → In y kept → R x y) → Pairs R kept
+    → Pairs R (cond b (x ∷ kept) kept)
 filtered_pairs R true x kept first rest = (first, rest)
 filtered_pairs R false x kept first rest = rest
 
@@ -122,7 +124,8 @@ pairs_filter_map R S f (x ∷ xs) so p =
     pairs_option S (f x) (filter_map f xs) (λ u v e a. let r = in_filter_map f xs v a in so x r.0 u v (p.0 r.0 r.1) e r.2) (pairs_filter_map R S f xs so p.1)
 
 -- of mapped elements
-pub pairs_map : {X Y : Type 0} (R : X → X → Type 0) (S : Y → Y → Type 0) (f : X → Y) (xs : List X) → ((x y : X) → R x y → S (f x) (f y)) → Pairs R xs → Pairs S (map f xs)
+pub pairs_map : {X Y : Type 0} (R : X → X → Type 0) (S : Y → Y → Type 0) (f : X → Y) (xs : List X) → ((x y : X) → R x y → S (f x) (f y)) → Pairs R xs
+    → Pairs S (map f xs)
 pairs_map R S f [] so p = tt
 pairs_map R S f (x ∷ xs) so p =
     (λ v a. let r = in_mapped f xs v a in subst (λ w. S (f x) w) r.2 (so x r.0 (p.0 r.0 r.1)), pairs_map R S f xs so p.1)

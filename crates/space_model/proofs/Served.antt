@@ -3,8 +3,8 @@ use Rattle.std.proofs.Common.{◌≡◌, ℕ, false, cond, List, [], ◌∷◌, 
 use Rattle.std.specs.Prelude.{bytes_eq}
 use Rattle.space_model.specs.Ledger.{Pending, Ledger, Touch, is_pending, packed_of, with_pending, pending_at, served, serve}
 use Rattle.space_model.specs.LedgerOrder.{HasBlock, keys_of}
-use Rattle.space_model.specs.Pendings.{found_new, found_other, order_kept}
-use Rattle.space_model.specs.Serving.{served_block}
+use Rattle.space_model.proofs.Pendings.{found_new, found_other, order_kept}
+use Rattle.space_model.proofs.Serving.{served_block}
 
 -- the pending keys are those before, with one that has another block
 record Replaces (l new : Ledger) (key : List ℕ) (bytes : Option ℕ) : Type 0 where

@@ -1,5 +1,6 @@
 -- Lemmas: a flush keeps a ledger in order, and what stands behind it.
-use Rattle.std.proofs.Common.{◌≡◌, inl, inr, ⊎_elim, ℕ, Bool, true, false, cond, List, [], ◌∷◌, ◌++◌, map, filter, Option, Some, None, refl, sym, ap, ◌∙◌, subst, arith}
+use Rattle.std.proofs.Common.{◌≡◌, inl, inr, ⊎_elim, ℕ, Bool, true, false, cond, List, [], ◌∷◌, ◌++◌, map, filter, Option, Some, None, refl, sym, ap}
+use Rattle.std.proofs.Common.{◌∙◌, subst, arith}
 use Rattle.std.specs.Prelude.{not, filter_map, bytes_eq, option_map}
 use Rattle.std.specs.List.{cons_option}
 use Rattle.std.proofs.lemmas.Bool.{not-true, or_parts, or_from}
@@ -7,12 +8,15 @@ use Rattle.space_model.specs.Runs.{Run}
 use Rattle.space_model.specs.Apart.{In, Pairs, Apart}
 use Rattle.space_model.specs.Ledger.{Standing, Packed, Pending, Ledger, packed_run, held, is_pending, packed_of, standing_of, flushed_standing, flush}
 use Rattle.space_model.specs.LedgerOrder.{OtherPending, OtherStanding, IsInOrder, standing_run}
-use Rattle.space_model.specs.Members.{in_append, in_front, in_behind, in_mapped, mapped_in, in_filter_map, filter_map_in, in_filter, filter_passes, any_none, pairs_append, pairs_front, pairs_behind, pairs_cross, pairs_filter, pairs_filter_map, pairs_option, option_first, option_rest, map_pairs, pairs_map}
-use Rattle.space_model.specs.Pendings.{same_key, other_flips}
+use Rattle.space_model.proofs.Members.{in_append, in_front, in_behind, in_mapped, mapped_in, in_filter_map, filter_map_in, in_filter, filter_passes}
+use Rattle.space_model.proofs.Members.{any_none, pairs_append, pairs_front, pairs_behind, pairs_cross, pairs_filter, pairs_filter_map, pairs_option}
+use Rattle.space_model.proofs.Members.{option_first, option_rest, map_pairs, pairs_map}
+use Rattle.space_model.proofs.Pendings.{same_key, other_flips}
 
 -- the standing key of a pending one
 standing_is : (p : Pending) (o : Option Packed) (s : Standing)
-    → option_map (λ at. record { key = p.key; run = at }) (option_map (λ (q : Packed). q.run) o) ≡ Some s → (p.key ≡ s.key) × (option_map (λ (q : Packed). q.run) o ≡ Some s.run)
+    → option_map (λ at. record { key = p.key; run = at }) (option_map (λ (q : Packed). q.run) o) ≡ Some s
+    → (p.key ≡ s.key) × (option_map (λ (q : Packed). q.run) o ≡ Some s.run)
 standing_is p None s e = absurd (cc e)
 standing_is p (Some q) s e =
     let same : record { key = p.key; run = q.run } ≡ s = cc e in (ap (λ (x : Standing). x.key) same, ap (λ (x : Standing). Some x.run) same)
@@ -28,11 +32,13 @@ flushed_keys standing pending apart waits =
     pairs_append OtherStanding (filter (λ s. not (is_pending pending s.key)) standing) (filter_map standing_of pending)
     (pairs_filter OtherStanding (λ s. not (is_pending pending s.key)) standing apart)
     (pairs_filter_map OtherPending OtherStanding standing_of pending
-    (λ p q s t other e f. subst (λ (k : List ℕ). bytes_eq k t.key ≡ false) (key_of p s e).0 (subst (λ (k : List ℕ). bytes_eq p.key k ≡ false) (key_of q t f).0 other)) waits)
+    (λ p q s t other e f. subst (λ (k : List ℕ). bytes_eq k t.key ≡ false) (key_of p s e).0
+    (subst (λ (k : List ℕ). bytes_eq p.key k ≡ false) (key_of q t f).0 other)) waits)
     (λ s t a b.
     let p = in_filter_map standing_of pending t b in
     let none = not-true _ (filter_passes (λ (x : Standing). not (is_pending pending x.key)) standing s a) in
-    other_flips t.key s.key (subst (λ (k : List ℕ). bytes_eq k s.key ≡ false) (key_of p.0 t p.2).0 (any_none (λ (q : Pending). bytes_eq q.key s.key) pending p.0 none p.1)))
+    other_flips t.key s.key (subst (λ (k : List ℕ). bytes_eq k s.key ≡ false) (key_of p.0 t p.2).0
+    (any_none (λ (q : Pending). bytes_eq q.key s.key) pending p.0 none p.1)))
 
 -- ---- runs
 
@@ -55,7 +61,8 @@ was_held l s a =
     let front = map (λ (t : Standing). t.run) l.standing in
     let behind = filter_map packed_run l.pending in
     ⊎_elim
-    (λ kept. in_front front behind s.run (mapped_in (λ (t : Standing). t.run) l.standing s (in_filter (λ (t : Standing). not (is_pending l.pending t.key)) l.standing s kept)))
+    (λ kept. in_front front behind s.run (mapped_in (λ (t : Standing). t.run) l.standing s
+    (in_filter (λ (t : Standing). not (is_pending l.pending t.key)) l.standing s kept)))
     (λ new. let p = in_filter_map standing_of l.pending s new in
     in_behind front behind s.run (filter_map_in packed_run l.pending p.0 s.run p.1 (key_of p.0 s p.2).1))
     (in_append (filter (λ t. not (is_pending l.pending t.key)) l.standing) (filter_map standing_of l.pending) s a)
@@ -65,7 +72,8 @@ flushed_runs l apart =
     let front = map (λ (t : Standing). t.run) l.standing in
     let behind = filter_map packed_run l.pending in
     pairs_append RunsApart (filter (λ s. not (is_pending l.pending s.key)) l.standing) (filter_map standing_of l.pending)
-    (pairs_filter RunsApart (λ s. not (is_pending l.pending s.key)) l.standing (map_pairs Apart (λ (t : Standing). t.run) l.standing (pairs_front Apart front behind apart)))
+    (pairs_filter RunsApart (λ s. not (is_pending l.pending s.key)) l.standing
+    (map_pairs Apart (λ (t : Standing). t.run) l.standing (pairs_front Apart front behind apart)))
     (pending_runs l.pending (pairs_behind Apart front behind apart))
     (λ s t a b.
     let p = in_filter_map standing_of l.pending t b in
@@ -110,7 +118,8 @@ none_behind [] ys key none = none
 none_behind (s ∷ ss) ys key none = ap (λ o. cond (bytes_eq s.key key) (Some s.run) o) (none_behind ss ys key none)
 
 -- a key that is pending stands no more by its old run
-filtered_first : (b c : Bool) (s : Standing) (kept : List Standing) (key : List ℕ) → bytes_eq s.key key ≡ c → (c ≡ true → b ≡ true) → standing_run kept key ≡ None
+filtered_first : (b c : Bool) (s : Standing) (kept : List Standing) (key : List ℕ) → bytes_eq s.key key ≡ c → (c ≡ true → b ≡ true)
+    → standing_run kept key ≡ None
     → standing_run (cond (not b) (s ∷ kept) kept) key ≡ None
 filtered_first true c s kept key e so none = none
 filtered_first false true s kept key e so none = let no : false ≡ true = so refl in absurd (cc no)

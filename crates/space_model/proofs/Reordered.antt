@@ -1,5 +1,6 @@
 -- Lemmas: a place depends on which runs are held, and not on their order or number.
-use Rattle.std.proofs.Common.{◌≡◌, inl, inr, ⊎_elim, ℕ, zero, suc, ◌+◌, ◌-◌, ◌/◌, ◌^◌, Bool, true, false, List, [], ◌∷◌, Option, Some, None, refl, sym, ap, ◌∙◌, subst}
+use Rattle.std.proofs.Common.{◌≡◌, inl, inr, ⊎_elim, ℕ, zero, suc, ◌+◌, ◌-◌, ◌/◌, ◌^◌, Bool, true, false, List, [], ◌∷◌, Option, Some, None, refl}
+use Rattle.std.proofs.Common.{sym, ap, ◌∙◌, subst}
 use Rattle.std.specs.Prelude.{not, ◌&&◌, nat_le}
 use Rattle.std.specs.List.{list_any, list_all, range_with_len}
 use Rattle.std.proofs.lemmas.Bool.{or_cases, or_left, or_right, cases_Bool, both_ways, false_from_ne_true}
@@ -8,7 +9,9 @@ use Rattle.space_model.specs.Apart.{In, SameMembers}
 
 any_in : {X : Type 0} (test : X → Bool) (xs : List X) → list_any test xs ≡ true → (x : X) × In x xs × (test x ≡ true)
 any_in test [] e = absurd (cc e)
-any_in test (x ∷ xs) e = ⊎_elim (λ here. (x, inl refl, here)) (λ later. let f = any_in test xs later in (f.0, inr f.1, f.2)) (or_cases (test x) (list_any test xs) e)
+any_in test (x ∷ xs) e = ⊎_elim
+    (λ here. (x, inl refl, here)) (λ later. let f = any_in test xs later in (f.0, inr f.1, f.2))
+    (or_cases (test x) (list_any test xs) e)
 
 in_any : {X : Type 0} (test : X → Bool) (xs : List X) (x : X) → In x xs → test x ≡ true → list_any test xs ≡ true
 in_any test [] x a e = absurd a
@@ -41,7 +44,8 @@ behind_same : (b : Bool) (unit size : ℕ) (f g : ℕ → Option ℕ) → ((u : 
 behind_same true unit size f g same = refl
 behind_same false unit size f g same = same (unit + size)
 
-lowest_same : (largest units : ℕ) (xs ys : List Run) (exp runs unit : ℕ) → SameMembers xs ys → lowest largest units xs exp unit runs ≡ lowest largest units ys exp unit runs
+lowest_same : (largest units : ℕ) (xs ys : List Run) (exp runs unit : ℕ) → SameMembers xs ys
+    → lowest largest units xs exp unit runs ≡ lowest largest units ys exp unit runs
 lowest_same largest units xs ys exp zero unit same = refl
 lowest_same largest units xs ys exp (suc runs) unit same =
     ap (λ b. or_behind b unit (2 ^ exp) (λ behind. lowest largest units xs exp behind runs)) (maximal_same largest units xs ys (run unit exp) same)
@@ -52,12 +56,14 @@ larger_same : (o : Option ℕ) (exp : ℕ) (f g : ℕ → Option ℕ) → ((e : 
 larger_same (Some unit) exp f g same = refl
 larger_same None exp f g same = same (exp + 1)
 
-smallest_same : (largest units : ℕ) (xs ys : List Run) (exps exp : ℕ) → SameMembers xs ys → smallest largest units xs exp exps ≡ smallest largest units ys exp exps
+smallest_same : (largest units : ℕ) (xs ys : List Run) (exps exp : ℕ) → SameMembers xs ys
+    → smallest largest units xs exp exps ≡ smallest largest units ys exp exps
 smallest_same largest units xs ys zero exp same = refl
 smallest_same largest units xs ys (suc exps) exp same =
     ap (λ o. or_larger o exp (λ larger. smallest largest units xs larger exps)) (lowest_same largest units xs ys exp (units / 2 ^ exp) 0 same)
     ∙ larger_same (lowest largest units ys exp 0 (units / 2 ^ exp)) exp (λ larger. smallest largest units xs larger exps)
     (λ larger. smallest largest units ys larger exps) (λ larger. smallest_same largest units xs ys exps larger same)
 
-pub place_same : (largest units : ℕ) (xs ys : List Run) (exp : ℕ) → SameMembers xs ys → front_of_smallest largest units xs exp ≡ front_of_smallest largest units ys exp
+pub place_same : (largest units : ℕ) (xs ys : List Run) (exp : ℕ) → SameMembers xs ys
+    → front_of_smallest largest units xs exp ≡ front_of_smallest largest units ys exp
 place_same largest units xs ys exp same = smallest_same largest units xs ys (suc largest - exp) exp same

@@ -1,12 +1,15 @@
 -- Lemmas: where a run is placed, and that there is no place only where no run is free.
-use Rattle.std.proofs.Common.{◌≡◌, ◌≤◌, ◌<◌, inl, inr, ⊎_elim, ℕ, zero, suc, ◌+◌, ◌-◌, ◌*◌, ◌/◌, ◌%◌, ◌^◌, Bool, true, false, List, [], ◌∷◌, Option, Some, None, refl, sym, ap, ◌∙◌, subst, arith}
+use Rattle.std.proofs.Common.{◌≡◌, ◌≤◌, ◌<◌, inl, inr, ⊎_elim, ℕ, zero, suc, ◌+◌, ◌-◌, ◌*◌, ◌/◌, ◌%◌, ◌^◌, Bool, true, false, List, [], ◌∷◌, Option}
+use Rattle.std.proofs.Common.{Some, None, refl, sym, ap, ◌∙◌, subst, arith}
 use Rattle.std.specs.Prelude.{not, nat_lt, nat_le}
 use Rattle.std.specs.List.{list_any, list_all, range_with_len}
 use Rattle.std.proofs.Math.Nat.{mul-mod_left, mul-le-mul_right}
 use Rattle.std.proofs.Math.Pow.{pow_mono}
 use Rattle.std.proofs.lemmas.Nat.{pow_pos, pow-add, le-div, div-add-mod'}
-use Rattle.std.proofs.lemmas.Bool.{cases_Bool, cases_lt, cases_order, both_ways, and_parts, and_from, and_cases, and_left, and_right, or_parts, or_from, leb-true, ltb-false, le-leb, le-ltb, not-true, not-false, not_from_false, false_from_ne_true}
+use Rattle.std.proofs.lemmas.Bool.{cases_Bool, cases_lt, cases_order, both_ways, and_parts, and_from, and_cases, and_left, and_right, or_parts}
+use Rattle.std.proofs.lemmas.Bool.{or_from, leb-true, ltb-false, le-leb, le-ltb, not-true, not-false, not_from_false, false_from_ne_true}
 use Rattle.space_model.specs.Runs.{Run, run, end_of, meets, is_free, run_around, is_maximal, or_behind, lowest, or_larger, smallest, front_of_smallest}
+use Rattle.space_model.proofs.Minima.{first_and_rest}
 use Rattle.space_model.specs.Apart.{In, Apart, IsRun, HasRoom, Precedes, IsPlace}
 
 -- ---- runs that do not meet
@@ -120,10 +123,6 @@ pub record Larger (largest units : ℕ) (held : List Run) (exp n u : ℕ) : Type
   pub at : At largest units held size 0 (units / 2 ^ size) u
   pub smaller : (d : ℕ) → exp ≤ d → d < size → lowest largest units held d 0 (units / 2 ^ d) ≡ None
 
-smaller_too : (P : ℕ → Type 0) (e size : ℕ) → P e → ((d : ℕ) → e + 1 ≤ d → d < size → P d) → (d : ℕ) → e ≤ d → d < size → P d
-smaller_too P e size here rest d low high = ⊎_elim
-    (λ (same : e ≡ d). subst P same here) (λ apart. ⊎_elim (λ (l : e < d). rest d (omega arith) high) (λ (l : d < e). absurd (omega (arith, l, low))) apart) (cases_order e d)
-
 smallest_step : (top units : ℕ) (held : List Run) (n e u : ℕ) (o : Option ℕ) → lowest top units held e 0 (units / 2 ^ e) ≡ o
     → or_larger o e (λ larger. smallest top units held larger n) ≡ Some u → (smallest top units held (e + 1) n ≡ Some u → Larger top units held (e + 1) n u)
     → Larger top units held e (suc n) u
@@ -143,7 +142,7 @@ smallest_step top units held n e u None low is go =
       least = omega (arith, a);
       most = omega (arith, b);
       at = l.at;
-      smaller = smaller_too (λ d. lowest top units held d 0 (units / 2 ^ d) ≡ None) e l.size low l.smaller;
+      smaller = first_and_rest (λ d. lowest top units held d 0 (units / 2 ^ d) ≡ None) e l.size low l.smaller;
     }
 
 smallest_at : (top units : ℕ) (held : List Run) (e n u : ℕ) → smallest top units held e n ≡ Some u → Larger top units held e n u
@@ -157,7 +156,7 @@ all_none_step : (top units : ℕ) (held : List Run) (n e : ℕ) (o : Option ℕ)
     → (d : ℕ) → e ≤ d → d < e + suc n → lowest top units held d 0 (units / 2 ^ d) ≡ None
 all_none_step top units held n e (Some x) low is go d a b = absurd (cc is)
 all_none_step top units held n e None low is go d a b =
-    smaller_too (λ d. lowest top units held d 0 (units / 2 ^ d) ≡ None) e (e + suc n) low (λ c l m. go is c l (omega (arith, m))) d a b
+    first_and_rest (λ d. lowest top units held d 0 (units / 2 ^ d) ≡ None) e (e + suc n) low (λ c l m. go is c l (omega (arith, m))) d a b
 
 all_none : (top units : ℕ) (held : List Run) (e n : ℕ) → smallest top units held e n ≡ None
     → (d : ℕ) → e ≤ d → d < e + n → lowest top units held d 0 (units / 2 ^ d) ≡ None
@@ -244,7 +243,8 @@ place_is_apart top units held exp u q is a =
 
 -- ---- no place
 
-not_all : (test : ℕ → Bool) (from n : ℕ) → list_all (λ e. not (test e)) (range_with_len from n) ≡ false → (e : ℕ) × (from ≤ e) × (e < from + n) × (test e ≡ true)
+not_all : (test : ℕ → Bool) (from n : ℕ) → list_all (λ e. not (test e)) (range_with_len from n) ≡ false
+    → (e : ℕ) × (from ≤ e) × (e < from + n) × (test e ≡ true)
 not_all test from zero is = absurd (cc is)
 not_all test from (suc n) is = ⊎_elim
     (λ here. (from, omega arith, omega arith, not-false _ here))

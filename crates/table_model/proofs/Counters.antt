@@ -6,10 +6,11 @@ use Rattle.term_model.specs.TermValue.{TermValue, integer, atom, tuple, mapping,
 use Rattle.term_model.specs.Same.{equal_from_same}
 use Rattle.term_model.specs.declared.kind.Kind.TheVariants.{Set}
 use Rattle.table_model.specs.Table.{Table, has_key, is_key, objects_of, insert_object}
-use Rattle.table_model.specs.Counter.{OutOfRange, Counted, is_in_range, place_of, integer_of, counter_at, with_element, with_increment, counted, update_counter, Increments}
+use Rattle.table_model.specs.Counter.{OutOfRange, Counted, is_in_range, place_of, integer_of, counter_at, with_element, with_increment, counted}
+use Rattle.table_model.specs.Counter.{update_counter, Increments}
 use Rattle.table_model.specs.Sets.{in_a_set}
-use Rattle.table_model.specs.Inserted.{other_keys_kept}
-use Rattle.table_model.specs.TouchedKeys.{elements-chain}
+use Rattle.table_model.proofs.Inserted.{other_keys_kept}
+use Rattle.table_model.proofs.TouchedKeys.{elements-chain}
 
 -- ---- places of an object
 

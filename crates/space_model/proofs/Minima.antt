@@ -11,6 +11,13 @@ pub record IsLeast (test : ℕ → Bool) (n more least : ℕ) : Type 0 where
   pub passes : test least ≡ true
   pub below : (j : ℕ) → n ≤ j → j < least → test j ≡ false
 
+-- what holds of a number and of those behind it, up to an end, holds of all from it on
+pub first_and_rest : (P : ℕ → Type 0) (n end : ℕ) → P n → ((m : ℕ) → n + 1 ≤ m → m < end → P m) → (m : ℕ) → n ≤ m → m < end → P m
+first_and_rest P n end here rest m low high = ⊎_elim
+    (λ (same : n ≡ m). subst P same here)
+    (λ apart. ⊎_elim (λ (l : n < m). rest m (omega arith) high) (λ (l : m < n). absurd (omega (arith, l, low))) apart)
+    (cases_order n m)
+
 step : (test : ℕ → Bool) (n more : ℕ) (b : Bool) → test n ≡ b → (test n ≡ false → IsLeast test (n + 1) more (least_from test (n + 1) more))
     → IsLeast test n (suc more) (or_next b n (λ m. least_from test m more))
 step test n more true e go = record { low = omega arith; high = omega arith; passes = e; below = λ j a b. absurd (omega (arith, a, b)) }
@@ -22,8 +29,7 @@ step test n more false e go =
       low = omega (arith, low);
       high = omega (arith, high);
       passes = l.passes;
-      below = λ j a b. ⊎_elim (λ (same : n ≡ j). subst (λ m. test m ≡ false) same e)
-          (λ apart. ⊎_elim (λ (x : n < j). l.below j (omega (arith, x)) b) (λ (x : j < n). absurd (omega (arith, a, x))) apart) (cases_order n j);
+      below = first_and_rest (λ m. test m ≡ false) n (least_from test (n + 1) more) e l.below;
     }
 
 -- where one of the numbers passes, the least that does is found

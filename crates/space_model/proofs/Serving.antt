@@ -1,24 +1,25 @@
 -- Lemmas: serving touched keys keeps a ledger in order, and when it is full.
-use Rattle.std.proofs.Common.{◌≡◌, ◌≤◌, ◌<◌, ◌⊎◌, inl, inr, ⊎_elim, ℕ, zero, suc, ◌+◌, ◌-◌, ◌*◌, Bool, true, false, cond, List, [], ◌∷◌, ◌++◌, map, Option, Some, None, Result, Ok, Err, refl, sym, ap, ◌∙◌, subst, arith}
+use Rattle.std.proofs.Common.{◌≡◌, ◌≤◌, ◌⊎◌, inl, inr, ⊎_elim, ℕ, zero, suc, ◌+◌, ◌-◌, ◌*◌, Bool, true, false, cond, List, [], ◌∷◌, ◌++◌, map}
+use Rattle.std.proofs.Common.{Option, Some, None, Result, Ok, Err, refl, sym, ap, ◌∙◌, subst, arith}
 use Rattle.std.specs.Prelude.{filter_map, ◌==◌}
 use Rattle.std.proofs.Math.Nat.{mul-le-mul_left}
-use Rattle.std.proofs.lemmas.Bool.{cases_order, eqb-true}
+use Rattle.std.proofs.lemmas.Bool.{eqb-true}
 use Rattle.space_model.specs.Least.{log2}
 use Rattle.space_model.specs.Runs.{Run, run, place}
 use Rattle.space_model.specs.Apart.{In, Pairs, Apart, IsRun}
-use Rattle.space_model.specs.Ledger.{Standing, Packed, Pending, Ledger, packed_run, held, packed_of, with_pending, Placed, or_grown, place_growing, Touch, pending_at, served_at, kept_run, served_with, served, serve, exponent, after_served, serve_all, or_before, after_command, made}
+use Rattle.space_model.specs.Ledger.{Standing, Packed, Pending, Ledger, packed_run, held, packed_of, with_pending, Placed, or_grown, place_growing}
+use Rattle.space_model.specs.Ledger.{Touch, pending_at, served_at, kept_run, served_with, served, serve, exponent, after_served, serve_all, or_before}
+use Rattle.space_model.specs.Ledger.{after_command, made}
 use Rattle.space_model.specs.LedgerOrder.{IsInOrder, IsFirstPlace, IsFull, Serves}
-use Rattle.space_model.specs.Members.{in_append, in_front, in_behind, pairs_append, pairs_front, pairs_behind, pairs_cross}
-use Rattle.space_model.specs.Places.{place_is_run, place_is_apart}
-use Rattle.space_model.specs.Pendings.{keys_apart, run_with_pending, runs_apart, runs_kept}
+use Rattle.space_model.proofs.Members.{in_append, in_front, in_behind, pairs_append, pairs_front, pairs_behind, pairs_cross}
+use Rattle.space_model.proofs.Minima.{first_and_rest}
+use Rattle.space_model.proofs.Places.{place_is_run, place_is_apart}
+use Rattle.space_model.proofs.Pendings.{keys_apart, run_with_pending, runs_apart, runs_kept}
 
 -- ---- a place with more segments
 
-at_least_one : (P : ℕ → Type 0) (s end : ℕ) → P s → ((f : ℕ) → s + 1 ≤ f → f < end → P f) → (f : ℕ) → s ≤ f → f < end → P f
-at_least_one P s end here rest f low high = ⊎_elim
-    (λ (same : s ≡ f). subst P same here) (λ apart. ⊎_elim (λ (l : s < f). rest f (omega arith) high) (λ (l : f < s). absurd (omega (arith, l, low))) apart) (cases_order s f)
-
-placed_here : (size : ℕ) (runs : List Run) (exp s more u : ℕ) (at : Placed) → place size s runs exp ≡ Some u → Some (record { segments = s; unit = u }) ≡ Some at
+placed_here : (size : ℕ) (runs : List Run) (exp s more u : ℕ) (at : Placed) → place size s runs exp ≡ Some u
+    → Some (record { segments = s; unit = u }) ≡ Some at
     → IsFirstPlace size runs exp s more at
 placed_here size runs exp s more u at is same =
     let here : record { segments = s; unit = u } ≡ at = cc same in
@@ -42,14 +43,15 @@ grown_step size runs exp s more at None is e go =
       least = omega (arith, a);
       most = omega (arith, b);
       is_place = f.is_place;
-      needed = at_least_one (λ t. place size t runs exp ≡ None) s at.segments is f.needed;
+      needed = first_and_rest (λ t. place size t runs exp ≡ None) s at.segments is f.needed;
     }
 
 pub grows : (size : ℕ) (runs : List Run) (exp s more : ℕ) (at : Placed) → place_growing size runs exp s more ≡ Some at → IsFirstPlace size runs exp s more at
 grows size runs exp s zero at e = grown_last size runs exp s at (place size s runs exp) refl e
 grows size runs exp s (suc more) at e = grown_step size runs exp s more at (place size s runs exp) refl e (λ next. grows size runs exp (s + 1) more at next)
 
-full_last : (size : ℕ) (runs : List Run) (exp s : ℕ) (o : Option ℕ) → place size s runs exp ≡ o → or_grown o s (λ grown. None) ≡ None → place size s runs exp ≡ None
+full_last : (size : ℕ) (runs : List Run) (exp s : ℕ) (o : Option ℕ) → place size s runs exp ≡ o → or_grown o s (λ grown. None) ≡ None
+    → place size s runs exp ≡ None
 full_last size runs exp s (Some u) is e = absurd (cc e)
 full_last size runs exp s None is e = is
 
@@ -62,7 +64,8 @@ full_step size runs exp s more None e = e
 pub full_at_last : (size : ℕ) (runs : List Run) (exp s more : ℕ) → place_growing size runs exp s more ≡ None → place size (s + more) runs exp ≡ None
 full_at_last size runs exp s zero e = subst (λ (n : ℕ). place size n runs exp ≡ None) (omega arith) (full_last size runs exp s (place size s runs exp) refl e)
 full_at_last size runs exp s (suc more) e =
-    subst (λ (n : ℕ). place size n runs exp ≡ None) (omega arith) (full_at_last size runs exp (s + 1) more (full_step size runs exp s more (place size s runs exp) e))
+    subst (λ (n : ℕ). place size n runs exp ≡ None) (omega arith)
+    (full_at_last size runs exp (s + 1) more (full_step size runs exp s more (place size s runs exp) e))
 
 -- ---- a pending block gets a run
 
@@ -214,15 +217,19 @@ full_with : (size : ℕ) (l : Ledger) (key : List ℕ) (bytes exp : ℕ) (o : Op
     → (exp ≡ exponent bytes) × (place size (l.segments + (l.max - l.segments)) (held l) exp ≡ None)
 full_with size l key bytes exp (Some at) is e = absurd (cc e)
 full_with size l key bytes exp None is e =
-    let same : exponent bytes ≡ exp = cc e in
-    (sym same, subst (λ (x : ℕ). place size (l.segments + (l.max - l.segments)) (held l) x ≡ None) same (full_at_last size (held l) (exponent bytes) l.segments (l.max - l.segments) is))
+    let same : exponent bytes ≡ exp = cc e in (
+      sym same,
+      subst (λ (x : ℕ). place size (l.segments + (l.max - l.segments)) (held l) x ≡ None) same
+          (full_at_last size (held l) (exponent bytes) l.segments (l.max - l.segments) is),
+    )
 
 full_run : (size : ℕ) (l : Ledger) (key : List ℕ) (bytes exp : ℕ) (o : Option Run) → served_with size l key bytes (exponent bytes) o ≡ Err exp
     → (exp ≡ exponent bytes) × (place size (l.segments + (l.max - l.segments)) (held l) exp ≡ None)
 full_run size l key bytes exp (Some r) e = absurd (cc e)
 full_run size l key bytes exp None e = full_with size l key bytes exp (place_growing size (held l) (exponent bytes) l.segments (l.max - l.segments)) refl e
 
-pub full_touch : (size : ℕ) (l : Ledger) (key : List ℕ) (bytes : Option ℕ) (exp : ℕ) → l.segments ≤ l.max → served size l key bytes ≡ Err exp → IsFull size l bytes exp
+pub full_touch : (size : ℕ) (l : Ledger) (key : List ℕ) (bytes : Option ℕ) (exp : ℕ) → l.segments ≤ l.max → served size l key bytes ≡ Err exp
+    → IsFull size l bytes exp
 full_touch size l key None exp fits e = absurd (cc e)
 full_touch size l key (Some bytes) exp fits e =
     let f = full_run size l key bytes exp (kept_run (packed_of l.pending key) (exponent bytes)) e in
@@ -246,7 +253,9 @@ all_order size (t ∷ ts) l new e o =
     all_order size ts s.0 new s.2 (serve_order size l s.0 t s.1 o)
 
 pub all_only : (size : ℕ) (ts : List Touch) (l new : Ledger) → serve_all size l ts ≡ Ok new → Serves l new
-all_only size [] l new e = let same : l ≡ new = cc e in subst (λ (m : Ledger). Serves l m) same (record { max = refl; filed = refl; standing = refl; segments = omega arith })
+all_only size [] l new e =
+    let same : l ≡ new = cc e in
+    subst (λ (m : Ledger). Serves l m) same (record { max = refl; filed = refl; standing = refl; segments = omega arith })
 all_only size (t ∷ ts) l new e =
     let s = all_step size t ts l new (serve size l t) refl e in
     let first = serve_only size l s.0 t s.1 in

@@ -8,7 +8,7 @@ use Rattle.space_model.specs.Runs.{Run}
 use Rattle.space_model.specs.Apart.{In, Pairs}
 use Rattle.space_model.specs.Ledger.{Packed, Pending, packed_run, is_pending, packed_of, with_pending}
 use Rattle.space_model.specs.LedgerOrder.{OtherPending}
-use Rattle.space_model.specs.Members.{in_option, in_more, option_in, pairs_option, option_first, option_rest}
+use Rattle.space_model.proofs.Members.{in_option, in_more, option_in, pairs_option, option_first, option_rest}
 
 -- ---- keys
 

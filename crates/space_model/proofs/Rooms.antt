@@ -5,7 +5,7 @@ use Rattle.std.proofs.Math.Nat.{mul-le-mul_left}
 use Rattle.std.proofs.Math.Pow.{pow_mono}
 use Rattle.std.proofs.lemmas.Bool.{cases_lt, le-leb, leb-true, leb-false, ltb-true, ltb-false}
 use Rattle.space_model.specs.Ledger.{unit_bytes, head_bytes, exponent, is_too_large}
-use Rattle.space_model.specs.Minima.{IsLeast, least_is, below_own_power}
+use Rattle.space_model.proofs.Minima.{IsLeast, least_is, below_own_power}
 
 least_room : (bytes : ℕ) → IsLeast (λ exp. nat_le (head_bytes + bytes) (unit_bytes * 2 ^ exp)) 0 bytes (exponent bytes)
 least_room bytes =

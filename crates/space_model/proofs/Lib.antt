@@ -1,0 +1,10 @@
+pub mod Members
+pub mod Minima
+pub mod Places
+pub mod Reordered
+pub mod Pendings
+pub mod Serving
+pub mod Served
+pub mod Flushing
+pub mod Rooms
+pub mod Splits

@@ -1,0 +1,6 @@
+pub mod Inserted
+pub mod Deleted
+pub mod TouchedKeys
+pub mod Counters
+pub mod Walks
+pub mod AllowedKept
