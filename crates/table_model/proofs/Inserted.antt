@@ -1,10 +1,9 @@
 -- Lemmas: what inserted objects leave of each key.
-use Rattle.std.proofs.Common.{◌≡◌, ℕ, Bool, true, false, cond, not, List, [], ◌∷◌, ◌++◌, filter, Option, Some, None, refl, sym, ap, ◌∙◌, subst}
+use Rattle.std.proofs.Common.{◌≡◌, ℕ, Bool, true, false, cond, not, ◌&&◌, ◌||◌, List, [], ◌∷◌, ◌++◌, filter, Option, Some, None, refl, sym, ap, ◌∙◌, subst}
 use Rattle.std.specs.List.{list_any}
-use Rattle.std.specs.List.Sorted.{IsPermutation}
-use Rattle.std.proofs.lemmas.Bool.{or_parts}
+use Rattle.std.proofs.lemmas.Bool.{or_parts, and_right}
 use Rattle.std.proofs.lemmas.List.Elements.{filter-append}
-use Rattle.std.proofs.lemmas.List.Sorted.{IsPermutation-sym, IsPermutation-trans, IsPermutation-cons, IsPermutation-to_front}
+use Rattle.std.proofs.lemmas.List.Sorted.{list_any-IsPermutation}
 use Rattle.term_model.specs.TermValue.{TermValue, key}
 use Rattle.term_model.specs.Order.{is_same}
 use Rattle.term_model.specs.Sorted.{ascending}
@@ -14,6 +13,7 @@ use Rattle.term_model.specs.declared.kind.Kind.{Kind}
 use Rattle.term_model.specs.declared.kind.Kind.TheVariants.{Set, Bag, DuplicateBag}
 use Rattle.table_model.specs.Table.{Table, has_key, is_key, shares_key, objects_of, with_object, insert_object}
 use Rattle.table_model.specs.Operations.{insert_objects}
+use Rattle.table_model.proofs.Placing.{ascending_behind}
 
 -- ---- filters
 
@@ -38,6 +38,22 @@ filter-push_other p xs x e =
 
 pub filter-push : {A : Type 0} (p : A → Bool) (xs : List A) (x : A) → p x ≡ true → filter p (xs ++ x ∷ []) ≡ filter p xs ++ x ∷ []
 filter-push p xs x e = filter-append p xs (x ∷ []) ∙ ap (λ b. filter p xs ++ cond b (x ∷ []) []) e
+
+-- whether a term is among those that pass a test
+pub any-filter : (k : TermValue) (test : TermValue → Bool) (ts : List TermValue) → list_any (is_same k) (filter test ts) ≡ (list_any (is_same k) ts && test k)
+any-filter k test [] = refl
+any-filter k test (t ∷ ts) = by_test k test t ts (is_same k t) (test t) refl refl (any-filter k test ts)
+  where
+    by_test : (k : TermValue) (test : TermValue → Bool) (t : TermValue) (ts : List TermValue) (same b : Bool) → is_same k t ≡ same → test t ≡ b
+        → list_any (is_same k) (filter test ts) ≡ (list_any (is_same k) ts && test k)
+        → list_any (is_same k) (cond b (t ∷ filter test ts) (filter test ts)) ≡ ((same || list_any (is_same k) ts) && test k)
+    by_test k test t ts true true e f rest =
+        ap (λ c. c || list_any (is_same k) (filter test ts)) e ∙ sym (subst (λ (u : TermValue). test u ≡ true) (sym (equal_from_same k t e)) f)
+    by_test k test t ts true false e f rest =
+        let fails : test k ≡ false = subst (λ (u : TermValue). test u ≡ false) (sym (equal_from_same k t e)) f in
+        rest ∙ and_right (list_any (is_same k) ts) (test k) fails ∙ sym fails
+    by_test k test t ts false true e f rest = ap (λ c. c || list_any (is_same k) (filter test ts)) e ∙ rest
+    by_test k test t ts false false e f rest = rest
 
 -- ---- keys
 
@@ -83,29 +99,41 @@ has_its_key : (k : TermValue) (found : Option TermValue) → found ≡ Some k �
 has_its_key k found e = ap (is_key k) e ∙ same_self k
 
 added : (keypos : ℕ) (objects : List TermValue) (o k : TermValue) → key o keypos ≡ Some k
-    → IsPermutation (o ∷ ascending (filter (has_key keypos k) objects)) (ascending (filter (has_key keypos k) (objects ++ o ∷ [])))
+    → ascending (filter (has_key keypos k) (objects ++ o ∷ [])) ≡ ascending (ascending (filter (has_key keypos k) objects) ++ o ∷ [])
 added keypos objects o k e =
-    let mine = filter (has_key keypos k) objects in
-    let more = filter-push (has_key keypos k) objects o (has_its_key k (key o keypos) e) in
-    let in_order : IsPermutation (o ∷ ascending mine) (o ∷ mine) =
-    IsPermutation-cons o _ _ (IsPermutation-sym _ _ (IsPermutation-sorted_by (λ t. t) mine)) in
-    let behind : IsPermutation (o ∷ mine) (mine ++ o ∷ []) = IsPermutation-sym _ _ (IsPermutation-to_front mine o) in
-    subst (λ (ts : List TermValue). IsPermutation (o ∷ ascending mine) (ascending ts)) (sym more)
-    (IsPermutation-trans _ _ _ in_order (IsPermutation-trans _ _ _ behind (IsPermutation-sorted_by (λ t. t) (mine ++ o ∷ []))))
+    ap ascending (filter-push (has_key keypos k) objects o (has_its_key k (key o keypos) e))
+    ∙ ascending_behind (filter (has_key keypos k) objects) o
 
 pub in_a_duplicate_bag : (table : Table) (o k : TermValue) → table.kind ≡ DuplicateBag → key o table.keypos ≡ Some k
-    → IsPermutation (o ∷ objects_of table k) (objects_of (insert_object table o) k)
+    → objects_of (insert_object table o) k ≡ ascending (objects_of table k ++ o ∷ [])
 in_a_duplicate_bag table o k kind e =
-    subst (λ (d : Kind). IsPermutation (o ∷ objects_of table k) (ascending (filter (has_key table.keypos k) (with_object d table.keypos table.objects o))))
-    (sym kind) (added table.keypos table.objects o k e)
+    ap (λ (d : Kind). ascending (filter (has_key table.keypos k) (with_object d table.keypos table.objects o))) kind ∙ added table.keypos table.objects o k e
 
-pub new_in_a_bag : (table : Table) (o k : TermValue) → table.kind ≡ Bag → list_any (is_same o) table.objects ≡ false → key o table.keypos ≡ Some k
-    → IsPermutation (o ∷ objects_of table k) (objects_of (insert_object table o) k)
-new_in_a_bag table o k kind new e =
-    let same : with_object table.kind table.keypos table.objects o ≡ table.objects ++ o ∷ [] =
-    ap (λ (d : Kind). with_object d table.keypos table.objects o) kind ∙ ap (λ b. cond b table.objects (table.objects ++ o ∷ [])) new in
-    subst (λ (ts : List TermValue). IsPermutation (o ∷ objects_of table k) (ascending (filter (has_key table.keypos k) ts))) (sym same)
-    (added table.keypos table.objects o k e)
+-- an object is among those of its key where it is in the table
+pub among_its_key : (table : Table) (o k : TermValue) → key o table.keypos ≡ Some k
+    → list_any (is_same o) (objects_of table k) ≡ list_any (is_same o) table.objects
+among_its_key table o k e =
+    let mine = filter (has_key table.keypos k) table.objects in
+    sym (list_any-IsPermutation (is_same o) mine (ascending mine) (IsPermutation-sorted_by (λ t. t) mine))
+    ∙ any-filter o (has_key table.keypos k) table.objects
+    ∙ ap (λ b. list_any (is_same o) table.objects && b) (has_its_key k (key o table.keypos) e)
+    ∙ and_true (list_any (is_same o) table.objects)
+  where
+    and_true : (b : Bool) → (b && true) ≡ b
+    and_true true = refl
+    and_true false = refl
+
+pub in_a_bag : (table : Table) (o k : TermValue) → table.kind ≡ Bag → key o table.keypos ≡ Some k
+    → objects_of (insert_object table o) k ≡ cond (list_any (is_same o) (objects_of table k)) (objects_of table k) (ascending (objects_of table k ++ o ∷ []))
+in_a_bag table o k kind e =
+    ap (λ (d : Kind). ascending (filter (has_key table.keypos k) (with_object d table.keypos table.objects o))) kind
+    ∙ by_test (list_any (is_same o) table.objects)
+    ∙ ap (λ b. cond b (objects_of table k) (ascending (objects_of table k ++ o ∷ []))) (sym (among_its_key table o k e))
+  where
+    by_test : (b : Bool) → ascending (filter (has_key table.keypos k) (cond b table.objects (table.objects ++ o ∷ [])))
+        ≡ cond b (objects_of table k) (ascending (objects_of table k ++ o ∷ []))
+    by_test true = refl
+    by_test false = added table.keypos table.objects o k e
 
 pub there_in_a_bag : (table : Table) (o : TermValue) → table.kind ≡ Bag → list_any (is_same o) table.objects ≡ true → insert_object table o ≡ table
 there_in_a_bag table o kind there =

@@ -2,7 +2,7 @@
 use Rattle.std.proofs.Common.{◌≡◌, ℕ, Bool, true, false, cond, not, List, [], ◌∷◌, filter, Option, Some, None, refl, sym, ap, ◌∙◌, subst}
 use Rattle.std.specs.Prelude.{◌&&◌, ◌||◌, filter_map}
 use Rattle.std.specs.List.{list_any, cons_option}
-use Rattle.std.proofs.lemmas.Bool.{or_parts, or_from, and_right, both_ways, not-false}
+use Rattle.std.proofs.lemmas.Bool.{or_parts, or_from, both_ways, not-false}
 use Rattle.term_model.specs.TermValue.{TermValue, nil, chain, elements, key}
 use Rattle.term_model.specs.Order.{is_same}
 use Rattle.term_model.specs.Pairs.{repeats}
@@ -10,7 +10,7 @@ use Rattle.term_model.specs.Same.{equal_from_same, same_self, same_by}
 use Rattle.table_model.specs.Table.{Table, has_key, is_key, objects_of}
 use Rattle.table_model.specs.Operations.{insert_objects}
 use Rattle.table_model.specs.Touched.{distinct, keys_of, are_same, is_touched, touched_among, touched_by_insert}
-use Rattle.table_model.proofs.Inserted.{other_keys_kept_by_all}
+use Rattle.table_model.proofs.Inserted.{other_keys_kept_by_all, any-filter}
 
 -- ---- equal lists
 
@@ -112,21 +112,6 @@ pub any-keys_of : (keypos : ℕ) (k : TermValue) (objects : List TermValue) → 
 any-keys_of keypos k objects = any-distinct k (filter_map (λ object. key object keypos) objects) ∙ any-found keypos k objects
 
 -- ---- touched keys
-
-any-filter : (k : TermValue) (test : TermValue → Bool) (ts : List TermValue) → list_any (is_same k) (filter test ts) ≡ (list_any (is_same k) ts && test k)
-any-filter k test [] = refl
-any-filter k test (t ∷ ts) = by_test k test t ts (is_same k t) (test t) refl refl (any-filter k test ts)
-  where
-    by_test : (k : TermValue) (test : TermValue → Bool) (t : TermValue) (ts : List TermValue) (same b : Bool) → is_same k t ≡ same → test t ≡ b
-        → list_any (is_same k) (filter test ts) ≡ (list_any (is_same k) ts && test k)
-        → list_any (is_same k) (cond b (t ∷ filter test ts) (filter test ts)) ≡ ((same || list_any (is_same k) ts) && test k)
-    by_test k test t ts true true e f rest =
-        ap (λ c. c || list_any (is_same k) (filter test ts)) e ∙ sym (subst (λ (u : TermValue). test u ≡ true) (sym (equal_from_same k t e)) f)
-    by_test k test t ts true false e f rest =
-        let fails : test k ≡ false = subst (λ (u : TermValue). test u ≡ false) (sym (equal_from_same k t e)) f in
-        rest ∙ and_right (list_any (is_same k) ts) (test k) fails ∙ sym fails
-    by_test k test t ts false true e f rest = ap (λ c. c || list_any (is_same k) (filter test ts)) e ∙ rest
-    by_test k test t ts false false e f rest = rest
 
 pub any-touched_among : (keys : List TermValue) (old new : Table) (k : TermValue)
     → list_any (is_same k) (touched_among keys old new) ≡ (list_any (is_same k) keys && is_touched old new k)

@@ -22,7 +22,7 @@ use Rattle.table_model.specs.Table.{Table, has_key, is_key}
 use Rattle.table_model.specs.Operations.{is_member, delete_where}
 use Rattle.table_model.specs.Allowed.{is_object}
 use Rattle.table_model.specs.Touched.{is_touched}
-use Rattle.table_model.specs.Walk.{keys_in, slot_of_key, walk_place, walked_keys, walked, touched_by_delete}
+use Rattle.table_model.specs.Walk.{keys_in, slot_of_key, walk_place, walked_keys, walked, touched_in_walk}
 use Rattle.table_model.proofs.Inserted.{filter-without, one_key}
 use Rattle.table_model.proofs.Deleted.{absent_has_none}
 use Rattle.table_model.proofs.TouchedKeys.{any-keys_of, any-touched_among, any-filter_none, not_touched, repeats-distinct, repeats-filter}
@@ -133,15 +133,15 @@ member_or_same : (test : TermValue → Bool) (table : Table) (k : TermValue) (b 
 member_or_same test table k true e = refl
 member_or_same test table k false e = sym (none_from_deletion test table k e)
 
-pub touched_by_delete_is : (slots : ℕ) (test : TermValue → Bool) (table : Table) (k : TermValue)
-    → list_any (is_same k) (touched_by_delete slots table (delete_where test table)) ≡ is_touched table (delete_where test table) k
-touched_by_delete_is slots test table k =
+pub touched_in_walk_is : (slots : ℕ) (test : TermValue → Bool) (table : Table) (k : TermValue)
+    → list_any (is_same k) (touched_in_walk slots table (delete_where test table)) ≡ is_touched table (delete_where test table) k
+touched_in_walk_is slots test table k =
     any-touched_among (walked_keys slots table) table (delete_where test table) k
     ∙ ap (λ b. b && is_touched table (delete_where test table) k) (key_walked slots table k)
     ∙ member_or_same test table k (is_member table k) refl
 
-pub touched_by_delete_once : (slots : ℕ) (old new : Table) → repeats (touched_by_delete slots old new) ≡ false
-touched_by_delete_once slots old new = repeats-filter (is_touched old new) (walked_keys slots old) (keys_once slots old)
+pub touched_in_walk_once : (slots : ℕ) (old new : Table) → repeats (touched_in_walk slots old new) ≡ false
+touched_in_walk_once slots old new = repeats-filter (is_touched old new) (walked_keys slots old) (keys_once slots old)
 
 -- ---- walk order
 

@@ -4,7 +4,7 @@ use Rattle.std.specs.Prelude.{◌≡◌, Bool, true, cond, not, List, [], filter
 use Rattle.std.specs.List.{list_any, list_all}
 use Rattle.term_model.specs.TermValue.{TermValue, key}
 use Rattle.term_model.specs.Order.{is_same}
-use Rattle.table_model.specs.Table.{Table, has_key, shares_key, insert_object}
+use Rattle.table_model.specs.Table.{Table, has_key, shares_key, objects_of, insert_object}
 
 -- the table after objects are inserted, in order
 abbrev pub insert_objects : Table → List TermValue → Table
@@ -46,3 +46,9 @@ delete_object table object = delete_where (is_same object) table
 
 abbrev pub delete_all_objects : Table → Table
 delete_all_objects table = record table { objects = [] }
+
+-- Two tables are the same where each key has the same objects in both, in whatever order they were inserted.
+pub record IsSameTable (a b : Table) : Type 0 where
+  pub kind : a.kind ≡ b.kind
+  pub keypos : a.keypos ≡ b.keypos
+  pub objects : (k : TermValue) → objects_of a k ≡ objects_of b k

@@ -49,9 +49,9 @@ walked_keys slots table = sorted_by (walk_place slots) (keys_in table)
 abbrev pub walked : ℕ → Table → List TermValue
 walked slots table = flat_map (objects_of table) (walked_keys slots table)
 
--- the keys that are touched where objects are deleted, in walk order
-abbrev pub touched_by_delete : ℕ → Table → Table → List TermValue
-touched_by_delete slots old new = touched_among (walked_keys slots old) old new
+-- the keys that are touched where objects are deleted or a counter is updated, in walk order
+abbrev pub touched_in_walk : ℕ → Table → Table → List TermValue
+touched_in_walk slots old new = touched_among (walked_keys slots old) old new
 
 -- ---- what the ledger is told
 

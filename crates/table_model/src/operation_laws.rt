@@ -1,14 +1,14 @@
 //! Laws of the operations, as contracts of functions that do nothing.
-ghost use Rattle.std.specs.Prelude.{◌≡◌, ℤ, Bool, [], ◌∷◌, List, filter, Some, Ok, true, false};
+ghost use Rattle.std.specs.Prelude.{◌≡◌, ℤ, Bool, cond, not, [], ◌∷◌, ◌++◌, List, filter, Some, Ok, true, false};
 ghost use Rattle.std.specs.List.{list_any};
-ghost use Rattle.std.specs.List.Sorted.{IsPermutation};
 ghost use Rattle.term_model.specs.TermValue.{TermValue, key};
 ghost use Rattle.term_model.specs.Order.{is_same};
 ghost use Rattle.term_model.specs.declared.kind.Kind.TheVariants.{Set, Bag, DuplicateBag};
 ghost use Rattle.term_model.specs.Pairs.{repeats};
+ghost use Rattle.term_model.specs.Sorted.{ascending};
 ghost use Rattle.table_model.specs.Table.{Table, has_key, objects_of, insert_object};
 ghost use Rattle.table_model.specs.Operations.{insert_objects, is_member, are_new, KnownKey, insert_new_objects, delete_where, delete_key};
-ghost use Rattle.table_model.specs.Operations.{delete_object, delete_all_objects};
+ghost use Rattle.table_model.specs.Operations.{delete_object, delete_all_objects, IsSameTable};
 ghost use Rattle.table_model.specs.Counter.{Counted, update_counter, Increments};
 ghost use Rattle.table_model.specs.Touched.{is_touched, touched_by_insert};
 
@@ -21,20 +21,30 @@ pub fn inserts_leave_other_keys()
         → objects_of (insert_objects table objects) k ≡ objects_of table k }
 {}
 
-/// A bag has one object more of the key of an inserted object, unless that object is there: then nothing changes.
-#[tactic(auto, using(crate::proofs::Inserted::new_in_a_bag, crate::proofs::Inserted::there_in_a_bag))]
+/// An object joins the others of its key in a bag, unless it is among them: then nothing changes.
+#[tactic(auto, using(crate::proofs::Inserted::there_in_a_bag))]
 pub fn a_bag_gets_an_object_that_is_not_there()
-    ensures new { (table : Table) (object k : TermValue) → table.kind ≡ Bag → list_any (is_same object) table.objects ≡ false
-        → key object table.keypos ≡ Some k → IsPermutation (object ∷ objects_of table k) (objects_of (insert_object table object) k) }
+    ensures key { (table : Table) (object k : TermValue) → table.kind ≡ Bag → key object table.keypos ≡ Some k → objects_of (insert_object table object) k
+        ≡ cond (list_any (is_same object) (objects_of table k)) (objects_of table k) (ascending (objects_of table k ++ object ∷ [])) }
     ensures there { (table : Table) (object : TermValue) → table.kind ≡ Bag → list_any (is_same object) table.objects ≡ true
         → insert_object table object ≡ table }
 {}
 
-/// A duplicate bag has one object more of the key of an inserted object.
+/// Each object joins the others of its key in a duplicate bag.
 #[tactic(auto, using(crate::proofs::Inserted::in_a_duplicate_bag))]
 pub fn a_duplicate_bag_gets_each_object()
     ensures { (table : Table) (object k : TermValue) → table.kind ≡ DuplicateBag → key object table.keypos ≡ Some k
-        → IsPermutation (object ∷ objects_of table k) (objects_of (insert_object table object) k) }
+        → objects_of (insert_object table object) k ≡ ascending (objects_of table k ++ object ∷ []) }
+{}
+
+/// What an operation leaves of a key depends on the objects of that key alone, so tables that are the same stay so.
+pub fn the_same_tables_stay_the_same()
+    ensures insert { (objects : List TermValue) (a b : Table) → IsSameTable a b → IsSameTable (insert_objects a objects) (insert_objects b objects) }
+    ensures are_new { (objects : List TermValue) (a b : Table) → IsSameTable a b → are_new a objects ≡ are_new b objects }
+    ensures insert_new { (objects : List TermValue) (a b : Table) → IsSameTable a b
+        → IsSameTable (insert_new_objects a objects) (insert_new_objects b objects) }
+    ensures delete { (test : TermValue → Bool) (a b : Table) → IsSameTable a b → IsSameTable (delete_where test a) (delete_where test b) }
+    ensures member { (a b : Table) (k : TermValue) → objects_of a k ≡ objects_of b k → is_member a k ≡ is_member b k }
 {}
 
 /// A key is a member of a table just where it has objects.
@@ -57,11 +67,13 @@ pub fn new_objects_have_keys_that_are_absent()
 {}
 
 /// A deletion leaves no object that passes its test, and of the others each as often and in the order in which they were.
-#[tactic(auto, using(crate::proofs::Deleted::deleted, crate::proofs::Deleted::not_deleted))]
+#[tactic(auto, using(crate::proofs::Deleted::deleted, crate::proofs::Deleted::not_deleted, crate::proofs::SameTables::left_of_key))]
 pub fn a_deletion_leaves_what_fails_its_test()
     ensures gone { (test : TermValue → Bool) (table : Table) → filter test (delete_where test table).objects ≡ [] }
     ensures others { (test p : TermValue → Bool) (table : Table) → ((object : TermValue) → test object ≡ true → p object ≡ false)
         → filter p (delete_where test table).objects ≡ filter p table.objects }
+    ensures key { (test : TermValue → Bool) (table : Table) (k : TermValue)
+        → objects_of (delete_where test table) k ≡ filter (λ object. not (test object)) (objects_of table k) }
 {}
 
 /// A deleted key has no objects, and other keys keep theirs.

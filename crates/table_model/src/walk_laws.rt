@@ -10,7 +10,7 @@ ghost use Rattle.table_model.specs.Table.{Table};
 ghost use Rattle.table_model.specs.Operations.{is_member, delete_where};
 ghost use Rattle.table_model.specs.Allowed.{is_object};
 ghost use Rattle.table_model.specs.Touched.{is_touched};
-ghost use Rattle.table_model.specs.Walk.{slot_of_key, slots_after, walk_place, walked_keys, walked, touched_by_delete};
+ghost use Rattle.table_model.specs.Walk.{slot_of_key, slots_after, walk_place, walked_keys, walked, touched_in_walk};
 
 /// Keys are walked by their slots, and in a slot by the order of terms.
 #[tactic(auto, using(crate::proofs::Walks::place_order))]
@@ -33,9 +33,9 @@ pub fn a_walk_meets_the_objects_of_the_table()
 {}
 
 /// Among the keys that a deletion touches each key is just where it is touched, and once.
-#[tactic(auto, using(crate::proofs::Walks::touched_by_delete_is, crate::proofs::Walks::touched_by_delete_once))]
+#[tactic(auto, using(crate::proofs::Walks::touched_in_walk_is, crate::proofs::Walks::touched_in_walk_once))]
 pub fn a_deletion_touches_each_key_once()
     ensures exactly { (slots : ℕ) (test : TermValue → Bool) (table : Table) (k : TermValue)
-        → list_any (is_same k) (touched_by_delete slots table (delete_where test table)) ≡ is_touched table (delete_where test table) k }
-    ensures once { (slots : ℕ) (old new : Table) → repeats (touched_by_delete slots old new) ≡ false }
+        → list_any (is_same k) (touched_in_walk slots table (delete_where test table)) ≡ is_touched table (delete_where test table) k }
+    ensures once { (slots : ℕ) (old new : Table) → repeats (touched_in_walk slots old new) ≡ false }
 {}
