@@ -6,3 +6,4 @@ pub mod Counters
 pub mod Walks
 pub mod AllowedKept
 pub mod SameTables
+pub mod WalkOrder

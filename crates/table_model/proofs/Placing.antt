@@ -29,10 +29,10 @@ tied Less s e l m = cc
 tied Equal s e l m = refl
 tied Greater s e l m = let less : is_lt s ≡ true = ap is_lt e in absurd (both_ways _ m less)
 
-less_flips : (a b : TermValue) → is_lt (order a b) ≡ true → is_lt (order b a) ≡ false
+pub less_flips : (a b : TermValue) → is_lt (order a b) ≡ true → is_lt (order b a) ≡ false
 less_flips a b l = not_both (order a b) (order b a) (order_total.antisymm b a) l
 
-neither : (a b : TermValue) → is_lt (order a b) ≡ false → is_lt (order b a) ≡ false → a ≡ b
+pub neither : (a b : TermValue) → is_lt (order a b) ≡ false → is_lt (order b a) ≡ false → a ≡ b
 neither a b l m = equal_from_order a b (tied (order a b) (order b a) (order_total.antisymm b a) l m)
 
 is_less : (r : Ordering) → r ≡ Less → is_lt r ≡ true
@@ -42,7 +42,7 @@ less_less : (a b c : TermValue) → is_lt (order a b) ≡ true → is_lt (order 
 less_less a b c l m = is_less (order a c) (order_total.trans a b c (less-is (order a b) l) (less-is (order b c) m))
 
 -- less than a term, and so than one that is not less
-less_up : (a b c : TermValue) → is_lt (order a b) ≡ true → is_lt (order c b) ≡ false → is_lt (order a c) ≡ true
+pub less_up : (a b c : TermValue) → is_lt (order a b) ≡ true → is_lt (order c b) ≡ false → is_lt (order a c) ≡ true
 less_up a b c l m = ⊎_elim
     (λ (up : is_lt (order b c) ≡ true). less_less a b c l up)
     (λ (no : is_lt (order b c) ≡ false). subst (λ (t : TermValue). is_lt (order a t) ≡ true) (neither b c no m) l)

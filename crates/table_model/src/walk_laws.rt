@@ -1,5 +1,5 @@
 //! Laws of walks, as contracts of functions that do nothing.
-ghost use Rattle.std.specs.Prelude.{◌≡◌, ◌≤◌, ◌<◌, ℕ, Bool, List, true, false};
+ghost use Rattle.std.specs.Prelude.{◌≡◌, ℕ, Bool, List, length, true, false};
 ghost use Rattle.std.specs.List.{list_any, list_all};
 ghost use Rattle.std.specs.List.Sorted.{IsPermutation, IsSortedByKey};
 ghost use Rattle.std.specs.Ordering.{nat_cmp, ordering_then};
@@ -7,10 +7,10 @@ ghost use Rattle.term_model.specs.TermValue.{TermValue};
 ghost use Rattle.term_model.specs.Order.{order, is_same};
 ghost use Rattle.term_model.specs.Pairs.{repeats};
 ghost use Rattle.table_model.specs.Table.{Table};
-ghost use Rattle.table_model.specs.Operations.{is_member, delete_where};
+ghost use Rattle.table_model.specs.Operations.{is_member, delete_where, IsSameTable};
 ghost use Rattle.table_model.specs.Allowed.{is_object};
 ghost use Rattle.table_model.specs.Touched.{is_touched};
-ghost use Rattle.table_model.specs.Walk.{slot_of_key, slots_after, walk_place, walked_keys, walked, touched_in_walk};
+ghost use Rattle.table_model.specs.Walk.{keys_in, slot_of_key, walk_place, walked_keys, walked, touched_in_walk};
 
 /// Keys are walked by their slots, and in a slot by the order of terms.
 #[tactic(auto, using(crate::proofs::Walks::place_order))]
@@ -30,6 +30,13 @@ pub fn each_member_is_walked_once()
 /// A walk meets the objects of a table, each as often as it is there.
 pub fn a_walk_meets_the_objects_of_the_table()
     ensures { (slots : ℕ) (table : Table) → list_all (is_object table.keypos) table.objects ≡ true → IsPermutation table.objects (walked slots table) }
+{}
+
+/// Tables that are the same have the same walk, and as many keys.
+pub fn the_same_tables_are_walked_alike()
+    ensures keys { (slots : ℕ) (a b : Table) → IsSameTable a b → walked_keys slots a ≡ walked_keys slots b }
+    ensures objects { (slots : ℕ) (a b : Table) → IsSameTable a b → walked slots a ≡ walked slots b }
+    ensures number { (a b : Table) → IsSameTable a b → length (keys_in a) ≡ length (keys_in b) }
 {}
 
 /// Among the keys that a deletion touches each key is just where it is touched, and once.
