@@ -7,3 +7,5 @@ pub mod Walks
 pub mod AllowedKept
 pub mod SameTables
 pub mod WalkOrder
+pub mod Spelled
+pub mod OneKey

@@ -73,7 +73,8 @@ alike_first slots j k js ks a b same = ⊎_elim
     (λ here. equal_from_same j k here)
     (λ j_later. ⊎_elim
     (λ here. sym (equal_from_same k j here))
-    (λ k_later. absurd (both_ways _ (less_flips (walk_place slots k) (walk_place slots j) (found_above slots k j ks b.0 j_later)) (found_above slots j k js a.0 k_later)))
+    (λ k_later. absurd (both_ways _ (less_flips (walk_place slots k) (walk_place slots j) (found_above slots k j ks b.0 j_later))
+    (found_above slots j k js a.0 k_later)))
     (or_cases (is_same k j) (list_any (is_same k) js) (same k ∙ ap (λ x. x || list_any (is_same k) ks) (same_self k))))
     (or_cases (is_same j k) (list_any (is_same j) ks) (sym (same j) ∙ ap (λ x. x || list_any (is_same j) js) (same_self j)))
 

@@ -1,11 +1,12 @@
 -- Small tables that worked rows look into.
-use Rattle.std.specs.Prelude.{ℕ, [], ◌∷◌, List}
+use Rattle.std.specs.Prelude.{ℕ, ℤ, [], ◌∷◌, List, Result, Ok, Err}
 use Rattle.term_model.specs.TermValue.{TermValue}
 use Rattle.term_model.specs.Written.{word, number, pair}
 use Rattle.term_model.specs.declared.kind.Kind.{Kind}
 use Rattle.term_model.specs.declared.kind.Kind.TheVariants.{Set, Bag, DuplicateBag}
 use Rattle.table_model.specs.Table.{Table, empty_table}
 use Rattle.table_model.specs.Operations.{insert_objects}
+use Rattle.table_model.specs.Counter.{CounterFault, Counted, update_counter, usual_place}
 
 -- a table in which these objects were inserted, in order
 abbrev pub filled : Kind → ℕ → List TermValue → Table
@@ -34,3 +35,15 @@ small_bag = filled Bag 1 (pair (word "a") (number 1) ∷ pair (word "a") (number
 -- {a,1} and {a,1}
 abbrev pub small_duplicate_bag : Table
 small_duplicate_bag = filled DuplicateBag 1 (pair (word "a") (number 1) ∷ pair (word "a") (number 1) ∷ [])
+
+-- {n,5}
+abbrev pub one_counter : Table
+one_counter = filled Set 1 (pair (word "n") (number 5) ∷ [])
+
+abbrev pub counted_or : Table → Result Counted CounterFault → Table
+counted_or table (Ok new) = new.table
+counted_or table (Err fault) = table
+
+-- a table after the counter of a key behind it is incremented
+abbrev pub incremented : Table → TermValue → ℤ → Table
+incremented table k increment = counted_or table (update_counter table k (usual_place table) increment)

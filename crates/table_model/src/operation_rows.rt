@@ -8,7 +8,7 @@ ghost use Rattle.table_model.specs.Operations.{insert_objects, is_member, are_ne
 ghost use Rattle.table_model.specs.Operations.{delete_all_objects};
 ghost use Rattle.table_model.specs.Counter.{update_counter, usual_place, is_in_range, NoCounter, OutOfRange};
 ghost use Rattle.table_model.specs.Touched.{keys_of, touched_by_insert, touched_among};
-ghost use Rattle.table_model.specs.Filled.{filled, four_objects, numbered_set, second_place_set, small_bag};
+ghost use Rattle.table_model.specs.Filled.{filled, four_objects, numbered_set, one_counter, second_place_set, small_bag};
 
 /// The list `{a,1}`, `{a,1}`, `{b,1}` and `{a,2}`, inserted into an empty table of each kind.
 pub fn the_same_inserts_into_tables_of_each_kind()
@@ -58,9 +58,9 @@ pub fn a_member_is_a_key_with_an_object()
 
 /// A set with `{n,5}`, in which the counter of `n` stands behind the key.
 pub fn a_counter_is_incremented_in_its_place()
-    ensures usual { update_counter (filled Set 1 (pair (word "n") (number 5) ∷ [])) (word "n") (pos 2) (pos 3)
+    ensures usual { update_counter one_counter (word "n") (pos 2) (pos 3)
         ≡ Ok (record { value = pos 8; table = filled Set 1 (pair (word "n") (number 8) ∷ []) }) }
-    ensures usual_place { usual_place (filled Set 1 (pair (word "n") (number 5) ∷ [])) ≡ pos 2 }
+    ensures usual_place { usual_place one_counter ≡ pos 2 }
     ensures below_zero { update_counter (filled Set 1 (pair (word "n") (number 8) ∷ [])) (word "n") (pos 2) (negsuc 9)
         ≡ Ok (record { value = negsuc 1; table = filled Set 1 (pair (word "n") (integer (negsuc 1)) ∷ []) }) }
     ensures other_place { update_counter (filled Set 2 (tuple_of (number 1 ∷ word "n" ∷ number 2 ∷ []) ∷ [])) (word "n") (pos 1) (pos 4)
@@ -69,11 +69,11 @@ pub fn a_counter_is_incremented_in_its_place()
 
 /// The same set: what is no counter, and sums at the ends of the range.
 pub fn what_is_no_counter_is_not_incremented()
-    ensures absent { update_counter (filled Set 1 (pair (word "n") (number 5) ∷ [])) (word "z") (pos 2) (pos 1) ≡ Err NoCounter }
+    ensures absent { update_counter one_counter (word "z") (pos 2) (pos 1) ≡ Err NoCounter }
     ensures place_of_the_key { update_counter (filled Set 1 (pair (number 7) (number 5) ∷ [])) (number 7) (pos 1) (pos 1) ≡ Err NoCounter }
-    ensures outside { update_counter (filled Set 1 (pair (word "n") (number 5) ∷ [])) (word "n") (pos 3) (pos 1) ≡ Err NoCounter }
-    ensures place_0 { update_counter (filled Set 1 (pair (word "n") (number 5) ∷ [])) (word "n") (pos 0) (pos 1) ≡ Err NoCounter }
-    ensures negative_place { update_counter (filled Set 1 (pair (word "n") (number 5) ∷ [])) (word "n") (negsuc 1) (pos 1) ≡ Err NoCounter }
+    ensures outside { update_counter one_counter (word "n") (pos 3) (pos 1) ≡ Err NoCounter }
+    ensures place_0 { update_counter one_counter (word "n") (pos 0) (pos 1) ≡ Err NoCounter }
+    ensures negative_place { update_counter one_counter (word "n") (negsuc 1) (pos 1) ≡ Err NoCounter }
     ensures no_integer { update_counter (filled Set 1 (pair (word "n") (word "x") ∷ [])) (word "n") (pos 2) (pos 1) ≡ Err NoCounter }
     ensures greatest { update_counter (filled Set 1 (pair (word "n") (number (2 ^ 127 - 1)) ∷ [])) (word "n") (pos 2) (pos 1) ≡ Err OutOfRange }
     ensures least { update_counter (filled Set 1 (pair (word "n") (integer (negsuc (2 ^ 127 - 1))) ∷ [])) (word "n") (pos 2) (negsuc 0) ≡ Err OutOfRange }

@@ -1,16 +1,19 @@
 //! Laws of walks, as contracts of functions that do nothing.
-ghost use Rattle.std.specs.Prelude.{◌≡◌, ℕ, Bool, List, length, true, false};
+ghost use Rattle.std.specs.Prelude.{◌≡◌, ℕ, ℤ, Bool, cond, List, [], ◌∷◌, length, Some, Ok, true, false};
 ghost use Rattle.std.specs.List.{list_any, list_all};
 ghost use Rattle.std.specs.List.Sorted.{IsPermutation, IsSortedByKey};
 ghost use Rattle.std.specs.Ordering.{nat_cmp, ordering_then};
-ghost use Rattle.term_model.specs.TermValue.{TermValue};
+ghost use Rattle.term_model.specs.TermValue.{TermValue, key};
+ghost use Rattle.term_model.specs.IsTerm.{IsTerm};
 ghost use Rattle.term_model.specs.Order.{order, is_same};
 ghost use Rattle.term_model.specs.Pairs.{repeats};
+ghost use Rattle.term_model.specs.declared.kind.Kind.TheVariants.{Set};
 ghost use Rattle.table_model.specs.Table.{Table};
-ghost use Rattle.table_model.specs.Operations.{is_member, delete_where, IsSameTable};
+ghost use Rattle.table_model.specs.Operations.{is_member, delete_where, delete_key, delete_object, IsSameTable};
+ghost use Rattle.table_model.specs.Counter.{Counted, update_counter};
 ghost use Rattle.table_model.specs.Allowed.{is_object};
 ghost use Rattle.table_model.specs.Touched.{is_touched};
-ghost use Rattle.table_model.specs.Walk.{keys_in, slot_of_key, walk_place, walked_keys, walked, touched_in_walk};
+ghost use Rattle.table_model.specs.Walk.{spelled, keys_in, slot_of_key, walk_place, walked_keys, walked, touched_in_walk};
 
 /// Keys are walked by their slots, and in a slot by the order of terms.
 #[tactic(auto, using(crate::proofs::Walks::place_order))]
@@ -45,4 +48,21 @@ pub fn a_deletion_touches_each_key_once()
     ensures exactly { (slots : ℕ) (test : TermValue → Bool) (table : Table) (k : TermValue)
         → list_any (is_same k) (touched_in_walk slots table (delete_where test table)) ≡ is_touched table (delete_where test table) k }
     ensures once { (slots : ℕ) (old new : Table) → repeats (touched_in_walk slots old new) ≡ false }
+{}
+
+/// A deletion of a key or of an object, and an update of a counter, touch that key or none.
+#[tactic(auto, using(crate::proofs::OneKey::delete_key_alone, crate::proofs::OneKey::delete_object_alone, crate::proofs::OneKey::counter_alone))]
+pub fn an_operation_on_a_key_touches_it_alone()
+    ensures key { (slots : ℕ) (table : Table) (k : TermValue)
+        → touched_in_walk slots table (delete_key table k) ≡ cond (is_touched table (delete_key table k) k) (k ∷ []) [] }
+    ensures object { (slots : ℕ) (table : Table) (object k : TermValue) → key object table.keypos ≡ Some k
+        → touched_in_walk slots table (delete_object table object) ≡ cond (is_touched table (delete_object table object) k) (k ∷ []) [] }
+    ensures counter { (slots : ℕ) (table : Table) (k : TermValue) (place increment : ℤ) (new : Counted) → table.kind ≡ Set
+        → update_counter table k place increment ≡ Ok new
+        → touched_in_walk slots table new.table ≡ cond (is_touched table new.table k) (k ∷ []) [] }
+{}
+
+/// Two terms that are spelled alike in a file are equal, so the ledger holds the bytes of keys in their place.
+pub fn keys_are_told_apart_by_their_bytes()
+    ensures { (j k : TermValue) → IsTerm j → IsTerm k → spelled j ≡ spelled k → j ≡ k }
 {}

@@ -1,12 +1,12 @@
 //! Worked rows of walks, as contracts of functions that do nothing.
-ghost use Rattle.std.specs.Prelude.{◌≡◌, [], ◌∷◌, replicate, true, false, Some, None};
+ghost use Rattle.std.specs.Prelude.{◌≡◌, [], ◌∷◌, replicate, pos, true, false, Some, None};
 ghost use Rattle.term_model.specs.TermValue.{nil};
 ghost use Rattle.term_model.specs.Written.{word, number, pair, bytes, list_of};
 ghost use Rattle.term_model.specs.declared.kind.Kind.TheVariants.{Set, Bag};
 ghost use Rattle.table_model.specs.Table.{empty_table};
 ghost use Rattle.table_model.specs.Operations.{delete_key, delete_all_objects, delete_object};
 ghost use Rattle.table_model.specs.Walk.{spelled, slot_of_key, slots_at_opening, slots_after, walked_keys, walked, touched_in_walk, list_bytes, touches_of};
-ghost use Rattle.table_model.specs.Filled.{filled, small_set, small_bag};
+ghost use Rattle.table_model.specs.Filled.{filled, small_set, small_bag, one_counter, incremented};
 
 /// The slots of the keys 1, 2 and 3 among 256, and of 1 among 400.
 pub fn slots_of_small_keys()
@@ -43,12 +43,14 @@ pub fn the_number_of_slots_grows_with_the_keys()
     ensures counts_keys { slots_after false 1 small_bag ≡ 1 }
 {}
 
-/// Deletions touch keys in walk order.
-pub fn deletions_touch_keys_in_walk_order()
+/// Deletions touch keys in walk order, and a counter its key, unless the increment is 0.
+pub fn deletions_and_counters_touch_keys_in_walk_order()
     ensures all { touched_in_walk 256 small_set (delete_all_objects small_set) ≡ number 2 ∷ number 1 ∷ number 3 ∷ [] }
     ensures one_key { touched_in_walk 256 small_set (delete_key small_set (number 1)) ≡ number 1 ∷ [] }
     ensures absent { touched_in_walk 256 small_set (delete_key small_set (number 4)) ≡ [] }
     ensures one_object { touched_in_walk 256 small_bag (delete_object small_bag (pair (word "a") (number 2))) ≡ word "a" ∷ [] }
+    ensures counter { touched_in_walk 256 one_counter (incremented one_counter (word "n") (pos 3)) ≡ word "n" ∷ [] }
+    ensures increment_of_0 { touched_in_walk 256 one_counter (incremented one_counter (word "n") (pos 0)) ≡ [] }
 {}
 
 /// What the ledger is told: a key in its canonical spelling, and the bytes of its list.
