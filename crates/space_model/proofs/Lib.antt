@@ -1,9 +1,11 @@
 pub mod Members
 pub mod Minima
+pub mod FreeRuns
 pub mod Places
 pub mod Reordered
 pub mod Pendings
 pub mod Serving
+pub mod Commands
 pub mod Served
 pub mod Flushing
 pub mod Rooms

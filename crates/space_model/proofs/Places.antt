@@ -1,44 +1,17 @@
 -- Lemmas: where a run is placed, and that there is no place only where no run is free.
 use Rattle.std.proofs.Common.{◌≡◌, ◌≤◌, ◌<◌, inl, inr, ⊎_elim, ℕ, zero, suc, ◌+◌, ◌-◌, ◌*◌, ◌/◌, ◌%◌, ◌^◌, Bool, true, false, List, [], ◌∷◌, Option}
 use Rattle.std.proofs.Common.{Some, None, refl, sym, ap, ◌∙◌, subst, arith}
-use Rattle.std.specs.Prelude.{not, nat_lt, nat_le}
+use Rattle.std.specs.Prelude.{not, nat_lt}
 use Rattle.std.specs.List.{list_any, list_all, range_with_len}
-use Rattle.std.proofs.Math.Nat.{mul-mod_left, mul-le-mul_right}
+use Rattle.std.proofs.Math.Nat.{mul-le-mul_right}
 use Rattle.std.proofs.Math.Pow.{pow_mono}
-use Rattle.std.proofs.lemmas.Nat.{pow_pos, pow-add, le-div, div-add-mod'}
-use Rattle.std.proofs.lemmas.Bool.{cases_Bool, cases_lt, cases_order, both_ways, and_parts, and_from, and_cases, and_left, and_right, or_parts}
-use Rattle.std.proofs.lemmas.Bool.{or_from, leb-true, ltb-false, le-leb, le-ltb, not-true, not-false, not_from_false, false_from_ne_true}
+use Rattle.std.proofs.lemmas.Nat.{pow_pos, le-div, div-add-mod'}
+use Rattle.std.proofs.lemmas.Bool.{cases_Bool, cases_lt, cases_order, both_ways, and_parts, and_from, and_cases, and_left, and_right}
+use Rattle.std.proofs.lemmas.Bool.{or_from, le-leb, le-ltb, not-false, not_from_false, false_from_ne_true}
 use Rattle.space_model.specs.Runs.{Run, run, end_of, meets, is_free, run_around, is_maximal, or_behind, lowest, or_larger, smallest, front_of_smallest}
 use Rattle.space_model.proofs.Minima.{first_and_rest}
+use Rattle.space_model.proofs.FreeRuns.{free_run, aligned_times, multiple}
 use Rattle.space_model.specs.Apart.{In, Apart, IsRun, HasRoom, Precedes, IsPlace}
-
--- ---- runs that do not meet
-
-pub apart-meets : (r q : Run) → meets r q ≡ false → Apart r q
-apart-meets r q e = ⊎_elim
-    (λ a. inr (ltb-false r.unit (end_of q) a)) (λ a. inl (ltb-false q.unit (end_of r) a)) (and_cases (nat_lt r.unit (end_of q)) (nat_lt q.unit (end_of r)) e)
-
-none_meets : (r : Run) (held : List Run) (q : Run) → list_any (meets r) held ≡ false → In q held → meets r q ≡ false
-none_meets r [] q e a = absurd a
-none_meets r (x ∷ xs) q e a = let p = or_parts (meets r x) (list_any (meets r) xs) e in
-    ⊎_elim (λ here. subst (λ z. meets r z ≡ false) here p.0) (λ later. none_meets r xs q p.1 later) a
-
-pub free_run : (units : ℕ) (held : List Run) (r : Run) → is_free units held r ≡ true → (end_of r ≤ units) × ((q : Run) → In q held → Apart r q)
-free_run units held r e = let p = and_parts (nat_le (end_of r) units) (not (list_any (meets r) held)) e in
-    (leb-true (end_of r) units p.0, λ q a. apart-meets r q (none_meets r held q (not-true _ p.1) a))
-
--- ---- aligned units
-
-pub aligned_times : (u i e x : ℕ) → e ≤ x → u ≡ i * 2 ^ x → u % 2 ^ e ≡ 0
-aligned_times u i e x l is =
-    let split : x ≡ (x - e) + e = omega (arith, l) in
-    let size : 2 ^ x ≡ 2 ^ (x - e) * 2 ^ e = ap (λ n. 2 ^ n) split ∙ pow-add 2 (x - e) e in
-    let whole : u ≡ (i * 2 ^ (x - e)) * 2 ^ e = omega (arith, is, ap (λ n. i * n) size) in
-    ap (λ n. n % 2 ^ e) whole ∙ mul-mod_left (i * 2 ^ (x - e)) (2 ^ e)
-
--- an aligned unit is a multiple
-pub multiple : (u e : ℕ) → u % 2 ^ e ≡ 0 → u ≡ u / 2 ^ e * 2 ^ e
-multiple u e is = let whole = div-add-mod' u (2 ^ e) in omega (arith, whole, is)
 
 -- ---- the lowest of an exponent
 

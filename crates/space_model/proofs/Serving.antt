@@ -1,6 +1,6 @@
 -- Lemmas: serving touched keys keeps a ledger in order, and when it is full.
-use Rattle.std.proofs.Common.{◌≡◌, ◌≤◌, ◌⊎◌, inl, inr, ⊎_elim, ℕ, zero, suc, ◌+◌, ◌-◌, ◌*◌, Bool, true, false, cond, List, [], ◌∷◌, ◌++◌, map}
-use Rattle.std.proofs.Common.{Option, Some, None, Result, Ok, Err, refl, sym, ap, ◌∙◌, subst, arith}
+use Rattle.std.proofs.Common.{◌≡◌, ◌≤◌, ◌⊎◌, inl, inr, ⊎_elim, ℕ, zero, suc, ◌+◌, ◌-◌, ◌*◌, Bool, true, false, cond, List, ◌++◌, map}
+use Rattle.std.proofs.Common.{Option, Some, None, Ok, Err, refl, sym, ap, subst, arith}
 use Rattle.std.specs.Prelude.{filter_map, ◌==◌}
 use Rattle.std.proofs.Math.Nat.{mul-le-mul_left}
 use Rattle.std.proofs.lemmas.Bool.{eqb-true}
@@ -8,8 +8,7 @@ use Rattle.space_model.specs.Least.{log2}
 use Rattle.space_model.specs.Runs.{Run, run, place}
 use Rattle.space_model.specs.Apart.{In, Pairs, Apart, IsRun}
 use Rattle.space_model.specs.Ledger.{Standing, Packed, Pending, Ledger, packed_run, held, packed_of, with_pending, Placed, or_grown, place_growing}
-use Rattle.space_model.specs.Ledger.{Touch, pending_at, served_at, kept_run, served_with, served, serve, exponent, after_served, serve_all, or_before}
-use Rattle.space_model.specs.Ledger.{after_command, made}
+use Rattle.space_model.specs.Ledger.{Touch, pending_at, served_at, kept_run, served_with, served, serve, exponent}
 use Rattle.space_model.specs.LedgerOrder.{IsInOrder, IsFirstPlace, IsFull, Serves}
 use Rattle.space_model.proofs.Members.{in_append, in_front, in_behind, pairs_append, pairs_front, pairs_behind, pairs_cross}
 use Rattle.space_model.proofs.Minima.{first_and_rest}
@@ -72,7 +71,7 @@ full_at_last size runs exp s (suc more) e =
 pub swapped : (r q : Run) → Apart r q → Apart q r
 swapped r q p = ⊎_elim (λ l. inr l) (λ l. inl l) p
 
-wider : (top units more : ℕ) (r : Run) → units ≤ more → IsRun top units r → IsRun top more r
+pub wider : (top units more : ℕ) (r : Run) → units ≤ more → IsRun top units r → IsRun top more r
 wider top units more r l is = let ends = is.ends in record { exp = is.exp; aligned = is.aligned; ends = omega (arith, ends, l) }
 
 runs_from : (standing : List Standing) (ps : List Pending) (new : Pending) (r : Run)
@@ -238,50 +237,3 @@ full_touch size l key (Some bytes) exp fits e =
 
 pub serve_full : (size : ℕ) (l : Ledger) (t : Touch) (exp : ℕ) → l.segments ≤ l.max → serve size l t ≡ Err exp → IsFull size l t.bytes exp
 serve_full size l t exp fits e = full_touch size l t.key t.bytes exp fits e
-
--- ---- a command
-
-all_step : (size : ℕ) (t : Touch) (ts : List Touch) (l new : Ledger) (r : Result Ledger ℕ) → serve size l t ≡ r
-    → after_served r (λ next. serve_all size next ts) ≡ Ok new → (mid : Ledger) × (serve size l t ≡ Ok mid) × (serve_all size mid ts ≡ Ok new)
-all_step size t ts l new (Ok mid) is e = (mid, is, e)
-all_step size t ts l new (Err exp) is e = absurd (cc e)
-
-pub all_order : (size : ℕ) (ts : List Touch) (l new : Ledger) → serve_all size l ts ≡ Ok new → IsInOrder size l → IsInOrder size new
-all_order size [] l new e o = let same : l ≡ new = cc e in subst (λ (m : Ledger). IsInOrder size m) same o
-all_order size (t ∷ ts) l new e o =
-    let s = all_step size t ts l new (serve size l t) refl e in
-    all_order size ts s.0 new s.2 (serve_order size l s.0 t s.1 o)
-
-pub all_only : (size : ℕ) (ts : List Touch) (l new : Ledger) → serve_all size l ts ≡ Ok new → Serves l new
-all_only size [] l new e =
-    let same : l ≡ new = cc e in
-    subst (λ (m : Ledger). Serves l m) same (record { max = refl; filed = refl; standing = refl; segments = omega arith })
-all_only size (t ∷ ts) l new e =
-    let s = all_step size t ts l new (serve size l t) refl e in
-    let first = serve_only size l s.0 t s.1 in
-    let rest = all_only size ts s.0 new s.2 in
-    let a = first.segments in
-    let b = rest.segments in
-    record { max = rest.max ∙ first.max; filed = rest.filed ∙ first.filed; standing = rest.standing ∙ first.standing; segments = omega (arith, a, b) }
-
-or_before_order : (size : ℕ) (ts : List Touch) (l : Ledger) (r : Result Ledger ℕ) → serve_all size l ts ≡ r → IsInOrder size l → IsInOrder size (or_before l r)
-or_before_order size ts l (Ok new) e o = all_order size ts l new e o
-or_before_order size ts l (Err exp) e o =
-    let filed = o.filed in
-    let most = o.at_most in
-    let room : size * l.segments ≤ size * l.max = mul-le-mul_left size most in
-    record {
-      filed = omega (arith, filed, most);
-      at_most = omega arith;
-      runs = λ r a. wider (log2 size) (size * l.segments) (size * l.max) r room (o.runs r a);
-      apart = o.apart;
-      pending = o.pending;
-      standing = o.standing;
-    }
-
--- whether it is full or not
-pub command_order : (size : ℕ) (ts : List Touch) (l : Ledger) → IsInOrder size l → IsInOrder size (after_command size l ts)
-command_order size ts l o = or_before_order size ts l (serve_all size l ts) refl o
-
-pub made_order : (size max : ℕ) → IsInOrder size (made max)
-made_order size max = record { filed = omega arith; at_most = omega arith; runs = λ r a. absurd a; apart = tt; pending = tt; standing = tt }

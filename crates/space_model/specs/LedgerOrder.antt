@@ -1,9 +1,9 @@
 -- When a ledger is in order, and what serving a touched key and a flush leave. This project's own.
-use Rattle.std.specs.Prelude.{◌≡◌, ◌≤◌, ◌<◌, ℕ, ◌+◌, ◌*◌, false, cond, List, [], ◌∷◌, map, bytes_eq, Option, Some, None}
+use Rattle.std.specs.Prelude.{◌≡◌, ◌≤◌, ◌<◌, ℕ, ◌+◌, ◌*◌, false, cond, List, [], ◌∷◌, ◌++◌, map, bytes_eq, Option, Some, None, Ok}
 use Rattle.space_model.specs.Least.{log2}
 use Rattle.space_model.specs.Runs.{Run, place}
 use Rattle.space_model.specs.Apart.{In, Pairs, Apart, IsRun}
-use Rattle.space_model.specs.Ledger.{Standing, Pending, Ledger, Placed, exponent, held, packed_of}
+use Rattle.space_model.specs.Ledger.{Standing, Pending, Ledger, Placed, Touch, exponent, held, packed_of, serve_all}
 
 abbrev pub OtherPending : Pending → Pending → Type 0
 OtherPending p q = bytes_eq p.key q.key ≡ false
@@ -35,6 +35,16 @@ pub record IsFull (segment_units : ℕ) (l : Ledger) (bytes : Option ℕ) (exp :
   pub bytes_is : bytes ≡ Some payload
   pub exp_is : exp ≡ exponent payload
   pub no_place : place segment_units l.max (held l) exp ≡ None
+
+-- a command of these touched keys is full at one of them, after those before it were served
+pub record IsFullAt (segment_units : ℕ) (l : Ledger) (touches : List Touch) (exp : ℕ) : Type 0 where
+  pub front : List Touch
+  pub touch : Touch
+  pub behind : List Touch
+  pub parts : touches ≡ front ++ touch ∷ behind
+  pub before : Ledger
+  pub served : serve_all segment_units l front ≡ Ok before
+  pub full : IsFull segment_units before touch.bytes exp
 
 -- a pending key has a payload of so many bytes in a run of its exponent
 pub record HasBlock (pending : List Pending) (key : List ℕ) (bytes : ℕ) : Type 0 where

@@ -5,7 +5,7 @@ ghost use Rattle.space_model.specs.Least.{log2};
 ghost use Rattle.space_model.specs.Runs.{Run, place};
 ghost use Rattle.space_model.specs.Ledger.{unit_bytes, head_bytes, exponent, is_too_large, Pending, Packed, Ledger, Placed, Touch, held, made};
 ghost use Rattle.space_model.specs.Ledger.{is_pending, packed_of, with_pending, place_growing, serve, serve_all, after_command, flush};
-ghost use Rattle.space_model.specs.LedgerOrder.{IsInOrder, IsFirstPlace, IsFull, Serves, HasBlock, keys_of, standing_run};
+ghost use Rattle.space_model.specs.LedgerOrder.{IsInOrder, IsFirstPlace, IsFull, IsFullAt, Serves, HasBlock, keys_of, standing_run};
 
 /// A payload has room in the block of its exponent and in no smaller one, and one that is not too large needs a segment at
 /// most.
@@ -41,10 +41,12 @@ pub fn serving_leaves_standing_keys()
     ensures command { (segment_units : ℕ) (touches : List Touch) (l new : Ledger) → serve_all segment_units l touches ≡ Ok new → Serves l new }
 {}
 
-/// A touched key is full only where its block has no place with all segments.
-pub fn a_touched_key_is_full_without_a_place()
-    ensures { (segment_units : ℕ) (l : Ledger) (touch : Touch) (exp : ℕ) → l.segments ≤ l.max → serve segment_units l touch ≡ Err exp
+/// A touched key is full only where its block has no place with all segments, and a command where one of its keys is.
+pub fn a_key_is_full_without_a_place()
+    ensures touch { (segment_units : ℕ) (l : Ledger) (touch : Touch) (exp : ℕ) → l.segments ≤ l.max → serve segment_units l touch ≡ Err exp
         → IsFull segment_units l touch.bytes exp }
+    ensures command { (segment_units : ℕ) (touches : List Touch) (l : Ledger) (exp : ℕ) → IsInOrder segment_units l
+        → serve_all segment_units l touches ≡ Err exp → IsFullAt segment_units l touches exp }
 {}
 
 /// A served key is pending with its new payload in a run of its exponent, or without a block; other keys stay as they were.

@@ -1,7 +1,7 @@
 //! Laws of runs, as contracts of functions that do nothing.
 ghost use Rattle.std.specs.Prelude.{◌≡◌, ◌≤◌, ◌<◌, ℕ, ◌+◌, ◌^◌, List, Some, None, true, false};
 ghost use Rattle.space_model.specs.Least.{log2};
-ghost use Rattle.space_model.specs.Runs.{Run, run, is_free, front_of_smallest};
+ghost use Rattle.space_model.specs.Runs.{Run, run, end_of, is_free, is_maximal, front_of_smallest};
 ghost use Rattle.space_model.specs.Apart.{In, SameMembers, Apart, IsRun, IsPlace};
 
 /// A place is the front of a maximal free run of at least its size: of the smallest, and of these of the lowest.
@@ -27,6 +27,13 @@ pub fn a_place_is_a_free_run()
 pub fn without_a_place_no_run_is_free()
     ensures { (largest units : ℕ) (held : List Run) (exp : ℕ) (r : Run) → front_of_smallest largest units held exp ≡ None → exp ≤ r.exp
         → IsRun largest units r → is_free units held r ≡ false }
+{}
+
+/// No larger run that has a maximal one inside is free.
+#[tactic(auto, using(crate::proofs::FreeRuns::larger_not_free))]
+pub fn a_maximal_run_lies_in_no_larger_free_run()
+    ensures { (largest units : ℕ) (held : List Run) (r q : Run) → is_maximal largest units held r ≡ true → IsRun largest units q → r.exp < q.exp
+        → q.unit ≤ r.unit → end_of r ≤ end_of q → is_free units held q ≡ false }
 {}
 
 /// A place depends on which runs are held, and not on their order.

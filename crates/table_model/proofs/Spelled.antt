@@ -11,4 +11,5 @@ use Rattle.table_model.specs.Walk.{spelled}
 -- terms that are spelled alike are equal
 pub equal_from_spelled : (j k : TermValue) → IsTerm j → IsTerm k → spelled j ≡ spelled k → j ≡ k
 equal_from_spelled j k is_j is_k e =
-    (same_whole spelling spelling-exact j k (spelled k) [] (spelled k) [] (subst (λ (bytes : List ℕ). Spells j bytes) e (canonical_spells j is_j)) (canonical_spells k is_k) refl).0
+    (same_whole spelling spelling-exact j k (spelled k) [] (spelled k) []
+    (subst (λ (bytes : List ℕ). Spells j bytes) e (canonical_spells j is_j)) (canonical_spells k is_k) refl).0

@@ -1,4 +1,5 @@
-use Rattle.space_model.proofs.Serving.{made_order, serve_order, command_order}
+use Rattle.space_model.proofs.Serving.{serve_order}
+use Rattle.space_model.proofs.Commands.{made_order, command_order}
 use Rattle.space_model.proofs.Flushing.{flush_order}
 use Rattle.space_model.proofs.ledger_laws.a_ledger_stays_in_order.Goals as goal
 

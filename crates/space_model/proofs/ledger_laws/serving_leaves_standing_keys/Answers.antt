@@ -1,4 +1,5 @@
-use Rattle.space_model.proofs.Serving.{serve_only, all_only}
+use Rattle.space_model.proofs.Serving.{serve_only}
+use Rattle.space_model.proofs.Commands.{all_only}
 use Rattle.space_model.proofs.ledger_laws.serving_leaves_standing_keys.Goals as goal
 
 pub returns-clause-touch : goal.returns-clause-touch
