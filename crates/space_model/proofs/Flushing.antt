@@ -7,6 +7,7 @@ use Rattle.std.proofs.lemmas.Bool.{not-true, or_parts, or_from}
 use Rattle.space_model.specs.Runs.{Run}
 use Rattle.space_model.specs.Apart.{In, Pairs, Apart}
 use Rattle.space_model.specs.Ledger.{Standing, Packed, Pending, Ledger, packed_run, held, is_pending, packed_of, standing_of, flushed_standing, flush}
+use Rattle.space_model.specs.Ledger.{is_at_limit, flush_at_limit}
 use Rattle.space_model.specs.LedgerOrder.{OtherPending, OtherStanding, IsInOrder, standing_run}
 use Rattle.space_model.proofs.Members.{in_append, in_front, in_behind, in_mapped, mapped_in, in_filter_map, filter_map_in, in_filter, filter_passes}
 use Rattle.space_model.proofs.Members.{any_none, pairs_append, pairs_front, pairs_behind, pairs_cross, pairs_filter, pairs_filter_map, pairs_option}
@@ -100,6 +101,13 @@ flush_order size l o = record {
   pending = tt;
   standing = flushed_keys l.standing l.pending o.standing o.pending;
 }
+
+pub flush_at_limit_order : (size : ℕ) (l : Ledger) → IsInOrder size l → IsInOrder size (flush_at_limit l)
+flush_at_limit_order size l o = by_test (is_at_limit l)
+  where
+    by_test : (b : Bool) → IsInOrder size (cond b (flush l) l)
+    by_test true = flush_order size l o
+    by_test false = o
 
 -- ---- the run of a key
 

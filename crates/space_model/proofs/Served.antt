@@ -2,7 +2,7 @@
 use Rattle.std.proofs.Common.{◌≡◌, ℕ, false, cond, List, [], ◌∷◌, ◌++◌, Option, Some, None, Ok, refl, sym, ap, ◌∙◌, subst}
 use Rattle.std.specs.Prelude.{bytes_eq}
 use Rattle.space_model.specs.Ledger.{Pending, Ledger, Touch, is_pending, packed_of, with_pending, pending_at, served, serve}
-use Rattle.space_model.specs.LedgerOrder.{HasBlock, keys_of}
+use Rattle.space_model.specs.LedgerOrder.{HasBlock, pending_keys}
 use Rattle.space_model.proofs.Pendings.{found_new, found_other, order_kept}
 use Rattle.space_model.proofs.Serving.{served_block}
 
@@ -47,8 +47,8 @@ served_other size l new touch key other e =
     ∙ found_other l.pending r.next key (subst (λ (k : List ℕ). bytes_eq k key ≡ false) (sym r.key_is) other)
 
 pub served_order : (size : ℕ) (l new : Ledger) (touch : Touch) → serve size l touch ≡ Ok new
-    → keys_of new.pending ≡ cond (is_pending l.pending touch.key) (keys_of l.pending) (keys_of l.pending ++ touch.key ∷ [])
+    → pending_keys new.pending ≡ cond (is_pending l.pending touch.key) (pending_keys l.pending) (pending_keys l.pending ++ touch.key ∷ [])
 served_order size l new touch e =
     let r = replaced size l new touch.key touch.bytes e in
-    ap keys_of r.pending ∙ order_kept l.pending r.next
-    ∙ ap (λ (k : List ℕ). cond (is_pending l.pending k) (keys_of l.pending) (keys_of l.pending ++ k ∷ [])) r.key_is
+    ap pending_keys r.pending ∙ order_kept l.pending r.next
+    ∙ ap (λ (k : List ℕ). cond (is_pending l.pending k) (pending_keys l.pending) (pending_keys l.pending ++ k ∷ [])) r.key_is

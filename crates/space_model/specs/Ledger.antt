@@ -166,3 +166,7 @@ flushed_standing standing pending = filter (λ s. not (is_pending pending s.key)
 
 abbrev pub flush : Ledger → Ledger
 flush l = record l { filed = l.segments; standing = flushed_standing l.standing l.pending; pending = [] }
+
+-- a changing command that is not refused for its form or access begins so
+abbrev pub flush_at_limit : Ledger → Ledger
+flush_at_limit l = cond (is_at_limit l) (flush l) l

@@ -53,8 +53,8 @@ pub record HasBlock (pending : List Pending) (key : List ℕ) (bytes : ℕ) : Ty
   pub found : packed_of pending key ≡ Some (record { bytes = bytes; run = at })
 
 -- the pending keys, in the order of first touch
-abbrev pub keys_of : List Pending → List (List ℕ)
-keys_of pending = map (λ p. p.key) pending
+abbrev pub pending_keys : List Pending → List (List ℕ)
+pending_keys pending = map (λ p. p.key) pending
 
 -- the run of a key's block in the file, if it has one
 abbrev pub standing_run : List Standing → List ℕ → Option Run

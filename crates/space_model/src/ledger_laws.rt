@@ -4,8 +4,8 @@ ghost use Rattle.std.specs.Prelude.{Err, true, false};
 ghost use Rattle.space_model.specs.Least.{log2};
 ghost use Rattle.space_model.specs.Runs.{Run, place};
 ghost use Rattle.space_model.specs.Ledger.{unit_bytes, head_bytes, exponent, is_too_large, Pending, Packed, Ledger, Placed, Touch, held, made};
-ghost use Rattle.space_model.specs.Ledger.{is_pending, packed_of, with_pending, place_growing, serve, serve_all, after_command, flush};
-ghost use Rattle.space_model.specs.LedgerOrder.{IsInOrder, IsFirstPlace, IsFull, IsFullAt, Serves, HasBlock, keys_of, standing_run};
+ghost use Rattle.space_model.specs.Ledger.{is_pending, packed_of, with_pending, place_growing, serve, serve_all, after_command, flush, flush_at_limit};
+ghost use Rattle.space_model.specs.LedgerOrder.{IsInOrder, IsFirstPlace, IsFull, IsFullAt, Serves, HasBlock, pending_keys, standing_run};
 
 /// A payload has room in the block of its exponent and in no smaller one, and one that is not too large needs a segment at
 /// most.
@@ -33,6 +33,7 @@ pub fn a_ledger_stays_in_order()
     ensures command { (segment_units : ℕ) (touches : List Touch) (l : Ledger) → IsInOrder segment_units l
         → IsInOrder segment_units (after_command segment_units l touches) }
     ensures flushed { (segment_units : ℕ) (l : Ledger) → IsInOrder segment_units l → IsInOrder segment_units (flush l) }
+    ensures flushed_at_limit { (segment_units : ℕ) (l : Ledger) → IsInOrder segment_units l → IsInOrder segment_units (flush_at_limit l) }
 {}
 
 /// Serving changes the pending keys, and adds segments or none.
@@ -58,7 +59,7 @@ pub fn a_served_key_has_its_new_block()
     ensures others { (segment_units : ℕ) (l new : Ledger) (touch : Touch) (key : List ℕ) → bytes_eq touch.key key ≡ false
         → serve segment_units l touch ≡ Ok new → packed_of new.pending key ≡ packed_of l.pending key }
     ensures order { (segment_units : ℕ) (l new : Ledger) (touch : Touch) → serve segment_units l touch ≡ Ok new
-        → keys_of new.pending ≡ cond (is_pending l.pending touch.key) (keys_of l.pending) (keys_of l.pending ++ touch.key ∷ []) }
+        → pending_keys new.pending ≡ cond (is_pending l.pending touch.key) (pending_keys l.pending) (pending_keys l.pending ++ touch.key ∷ []) }
 {}
 
 /// Behind a flush the run of each key that was pending is its standing one, or it has none; other keys keep theirs.

@@ -1,8 +1,9 @@
 //! Worked rows of the ledger, as contracts of functions that do nothing.
 ghost use Rattle.std.specs.Prelude.{◌≡◌, [], ◌∷◌, replicate, codes, true, false, Some, None, Ok, Err};
 ghost use Rattle.space_model.specs.Runs.{run};
-ghost use Rattle.space_model.specs.Ledger.{exponent, is_too_large, opened, made, held, packed_of, serve, serve_all, after_command, is_at_limit, flush};
-ghost use Rattle.space_model.specs.LedgerOrder.{keys_of};
+ghost use Rattle.space_model.specs.Ledger.{exponent, is_too_large, opened, made, held, packed_of, serve, serve_all, after_command, is_at_limit};
+ghost use Rattle.space_model.specs.Ledger.{flush, flush_at_limit};
+ghost use Rattle.space_model.specs.LedgerOrder.{pending_keys};
 ghost use Rattle.space_model.specs.Scripts.{gets, loses, after_each, flushed_after, waits};
 
 /// A block of one unit has room for 56 bytes behind its head, and one of 4,096 units for 262,136.
@@ -61,10 +62,10 @@ pub fn a_pending_block_moves_where_its_exponent_changes()
 
 /// A key is pending once, in the place of its first touch, also without a block.
 pub fn a_key_is_pending_once()
-    ensures first_touch { keys_of (after_each (made 1) (gets "a" 14 ∷ gets "b" 14 ∷ gets "a" 60 ∷ [])).pending ≡ codes "a" ∷ codes "b" ∷ [] }
-    ensures in_one_command { keys_of (after_command 16 (made 1) (gets "a" 14 ∷ gets "b" 14 ∷ gets "a" 14 ∷ [])).pending ≡ codes "a" ∷ codes "b" ∷ [] }
-    ensures removed { keys_of (after_each (made 1) (gets "a" 14 ∷ gets "b" 14 ∷ loses "a" ∷ [])).pending ≡ codes "a" ∷ codes "b" ∷ [] }
-    ensures flushed { keys_of (flushed_after (made 1) (gets "a" 14 ∷ loses "b" ∷ [])).pending ≡ [] }
+    ensures first_touch { pending_keys (after_each (made 1) (gets "a" 14 ∷ gets "b" 14 ∷ gets "a" 60 ∷ [])).pending ≡ codes "a" ∷ codes "b" ∷ [] }
+    ensures in_one_command { pending_keys (after_command 16 (made 1) (gets "a" 14 ∷ gets "b" 14 ∷ gets "a" 14 ∷ [])).pending ≡ codes "a" ∷ codes "b" ∷ [] }
+    ensures removed { pending_keys (after_each (made 1) (gets "a" 14 ∷ gets "b" 14 ∷ loses "a" ∷ [])).pending ≡ codes "a" ∷ codes "b" ∷ [] }
+    ensures flushed { pending_keys (flushed_after (made 1) (gets "a" 14 ∷ loses "b" ∷ [])).pending ≡ [] }
 {}
 
 /// The ledger after a flush: only keys with a block stand, and the segments are filed.
@@ -84,4 +85,6 @@ pub fn the_limit_of_pending_keys_and_bytes()
     ensures removed { is_at_limit (waits (None ∷ replicate 4 (Some 262135))) ≡ false }
     ensures keys { is_at_limit (waits (replicate 4095 None)) ≡ false }
     ensures many_keys { is_at_limit (waits (replicate 4096 None)) ≡ true }
+    ensures flushed { (flush_at_limit (waits (replicate 4096 None))).pending ≡ [] }
+    ensures not_flushed { flush_at_limit (waits (None ∷ [])) ≡ waits (None ∷ []) }
 {}
