@@ -36,6 +36,10 @@ small_bag = filled Bag 1 (pair (word "a") (number 1) ∷ pair (word "a") (number
 abbrev pub small_duplicate_bag : Table
 small_duplicate_bag = filled DuplicateBag 1 (pair (word "a") (number 1) ∷ pair (word "a") (number 1) ∷ [])
 
+-- {7,0} and {3,0}
+abbrev pub two_numbers : Table
+two_numbers = filled Set 1 (pair (number 7) (number 0) ∷ pair (number 3) (number 0) ∷ [])
+
 -- {n,5}
 abbrev pub one_counter : Table
 one_counter = filled Set 1 (pair (word "n") (number 5) ∷ [])

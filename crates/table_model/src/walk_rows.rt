@@ -3,10 +3,14 @@ ghost use Rattle.std.specs.Prelude.{◌≡◌, [], ◌∷◌, replicate, pos, tr
 ghost use Rattle.term_model.specs.TermValue.{nil};
 ghost use Rattle.term_model.specs.Written.{word, number, pair, bytes, list_of};
 ghost use Rattle.term_model.specs.declared.kind.Kind.TheVariants.{Set, Bag};
+ghost use Rattle.space_model.specs.Runs.{run};
+ghost use Rattle.space_model.specs.Ledger.{made, held, after_command};
+ghost use Rattle.space_model.specs.LedgerOrder.{pending_keys};
 ghost use Rattle.table_model.specs.Table.{empty_table};
+ghost use Rattle.table_model.specs.Touched.{touched_by_insert};
 ghost use Rattle.table_model.specs.Operations.{delete_key, delete_all_objects, delete_object};
 ghost use Rattle.table_model.specs.Walk.{spelled, slot_of_key, slots_at_opening, slots_after, walked_keys, walked, touched_in_walk, list_bytes, touches_of};
-ghost use Rattle.table_model.specs.Filled.{filled, small_set, small_bag, one_counter, incremented};
+ghost use Rattle.table_model.specs.Filled.{filled, small_set, small_bag, two_numbers, one_counter, incremented};
 
 /// The slots of the keys 1, 2 and 3 among 256, and of 1 among 400.
 pub fn slots_of_small_keys()
@@ -61,4 +65,17 @@ pub fn touched_keys_are_told_to_the_ledger()
     ensures bytes { list_bytes (pair (word "k") (bytes (replicate 39 0)) ∷ []) ≡ Some 56 }
     ensures touches { touches_of (delete_key small_set (number 1)) (number 2 ∷ number 1 ∷ [])
         ≡ record { key = 131 ∷ 97 ∷ 2 ∷ []; bytes = Some 14 } ∷ record { key = 131 ∷ 97 ∷ 1 ∷ []; bytes = None } ∷ [] }
+{}
+
+/// `{7,0}` and `{3,0}` inserted by one command into an empty set, and then all objects deleted.
+pub fn a_command_is_served_in_the_order_of_its_touches()
+    ensures insert { pending_keys
+        (after_command 16 (made 1) (touches_of two_numbers (touched_by_insert two_numbers.objects (empty_table Set 1) two_numbers))).pending
+        ≡ spelled (number 7) ∷ spelled (number 3) ∷ [] }
+    ensures runs { held (after_command 16 (made 1) (touches_of two_numbers (touched_by_insert two_numbers.objects (empty_table Set 1) two_numbers)))
+        ≡ run 0 0 ∷ run 1 0 ∷ [] }
+    ensures delete { let gone = delete_all_objects small_set in
+        pending_keys (after_command 16 (made 1) (touches_of gone (touched_in_walk 256 small_set gone))).pending
+        ≡ spelled (number 2) ∷ spelled (number 1) ∷ spelled (number 3) ∷ [] }
+    ensures nothing_touched { after_command 16 (made 1) (touches_of small_set (touched_by_insert small_set.objects small_set small_set)) ≡ made 1 }
 {}
