@@ -1,13 +1,14 @@
 -- Lemmas: runs that are free, aligned or maximal.
-use Rattle.std.proofs.Common.{◌≡◌, ◌≤◌, ◌<◌, inl, inr, ⊎_elim, ℕ, zero, suc, ◌+◌, ◌-◌, ◌*◌, ◌/◌, ◌%◌, ◌^◌, Bool, true, false, List, [], ◌∷◌}
+use Rattle.std.proofs.Common.{◌≡◌, ◌≤◌, ◌<◌, inl, inr, ⊎_elim, ℕ, zero, suc, ◌+◌, ◌-◌, ◌*◌, ◌/◌, ◌%◌, ◌^◌, Bool, true, false, List}
 use Rattle.std.proofs.Common.{ap, ◌∙◌, subst, arith}
 use Rattle.std.specs.Prelude.{not, nat_lt, nat_le}
 use Rattle.std.specs.List.{list_any, list_all, range_with_len}
 use Rattle.std.proofs.Math.Nat.{mul-mod_left}
 use Rattle.std.proofs.lemmas.Nat.{pow_pos, pow-add, div-add-mod', mod-mul-add}
-use Rattle.std.proofs.lemmas.Bool.{and_parts, and_cases, or_parts}
+use Rattle.std.proofs.lemmas.Bool.{and_parts, and_cases}
 use Rattle.std.proofs.lemmas.Bool.{leb-true, ltb-false, not-true}
 use Rattle.space_model.specs.Runs.{Run, run, end_of, meets, is_free, run_around, is_maximal}
+use Rattle.space_model.proofs.Members.{any_none}
 use Rattle.space_model.proofs.Minima.{first_and_rest}
 use Rattle.space_model.specs.Apart.{In, Apart, IsRun}
 
@@ -17,14 +18,9 @@ pub apart-meets : (r q : Run) → meets r q ≡ false → Apart r q
 apart-meets r q e = ⊎_elim
     (λ a. inr (ltb-false r.unit (end_of q) a)) (λ a. inl (ltb-false q.unit (end_of r) a)) (and_cases (nat_lt r.unit (end_of q)) (nat_lt q.unit (end_of r)) e)
 
-pub none_meets : (r : Run) (held : List Run) (q : Run) → list_any (meets r) held ≡ false → In q held → meets r q ≡ false
-none_meets r [] q e a = absurd a
-none_meets r (x ∷ xs) q e a = let p = or_parts (meets r x) (list_any (meets r) xs) e in
-    ⊎_elim (λ here. subst (λ z. meets r z ≡ false) here p.0) (λ later. none_meets r xs q p.1 later) a
-
 pub free_run : (units : ℕ) (held : List Run) (r : Run) → is_free units held r ≡ true → (end_of r ≤ units) × ((q : Run) → In q held → Apart r q)
 free_run units held r e = let p = and_parts (nat_le (end_of r) units) (not (list_any (meets r) held)) e in
-    (leb-true (end_of r) units p.0, λ q a. apart-meets r q (none_meets r held q (not-true _ p.1) a))
+    (leb-true (end_of r) units p.0, λ q a. apart-meets r q (any_none (meets r) held q (not-true _ p.1) a))
 
 -- ---- aligned units
 

@@ -1,5 +1,5 @@
 -- Lemmas: each operation leaves a table with objects that its kind allows.
-use Rattle.std.proofs.Common.{◌≡◌, ◌≤◌, ℕ, Bool, true, false, cond, not, List, [], ◌∷◌, ◌++◌, filter, length, Option, Some, None, Ok, refl, sym, ap}
+use Rattle.std.proofs.Common.{append-nil, ◌≡◌, ◌≤◌, ℕ, Bool, true, false, cond, not, List, [], ◌∷◌, ◌++◌, filter, length, Option, Some, None, Ok, refl, sym, ap}
 use Rattle.std.proofs.Common.{◌∙◌, subst, arith}
 use Rattle.std.specs.Prelude.{ℤ, filter_map, is_some}
 use Rattle.std.specs.List.{list_any, list_all, cons_option}
@@ -121,19 +121,15 @@ push_key : (keypos : ℕ) (left : List TermValue) (o : TermValue) (mine : Option
 push_key keypos left o mine e none once =
     ap repeats (filter_map-append (λ object. key object keypos) left (o ∷ []) ∙ ap (λ p. found keypos left ++ cons_option p []) e) ∙ by_key mine none
   where
-    nil_behind : (ks : List TermValue) → ks ++ [] ≡ ks
-    nil_behind [] = refl
-    nil_behind (k ∷ ks) = ap (λ ls. k ∷ ls) (nil_behind ks)
-
     by_key : (mine : Option TermValue) → ((k : TermValue) → mine ≡ Some k → list_any (has_key keypos k) left ≡ false)
         → repeats (found keypos left ++ cons_option mine []) ≡ false
-    by_key None none = ap repeats (nil_behind (found keypos left)) ∙ once
+    by_key None none = ap repeats (append-nil (found keypos left)) ∙ once
     by_key (Some k) none = repeats-push (found keypos left) k once (any-found keypos k left ∙ none k refl)
 
-none_shares : (keypos : ℕ) (objects : List TermValue) (mine : Option TermValue) (k : TermValue) → mine ≡ Some k
+key_not_left : (keypos : ℕ) (objects : List TermValue) (mine : Option TermValue) (k : TermValue) → mine ≡ Some k
     → list_any (has_key keypos k) (filter (λ other. not (shares_key keypos mine other)) objects) ≡ false
-none_shares keypos objects None k e = cc
-none_shares keypos objects (Some j) k e =
+key_not_left keypos objects None k e = cc
+key_not_left keypos objects (Some j) k e =
     let same : k ≡ j = cc e in
     subst (λ (t : TermValue). list_any (has_key keypos t) (filter (λ other. not (has_key keypos j other)) objects) ≡ false) (sym same)
     (none_left (has_key keypos j) objects)
@@ -142,7 +138,7 @@ allowed_with : (kind : Kind) (keypos : ℕ) (objects : List TermValue) (o : Term
     → allows kind keypos (with_object kind keypos objects o) ≡ true
 allowed_with Set keypos objects o e =
     not_from_false _ (push_key keypos (filter (λ other. not (shares_key keypos (key o keypos) other)) objects) o (key o keypos) refl
-    (none_shares keypos objects (key o keypos))
+    (key_not_left keypos objects (key o keypos))
     (fewer_keys keypos (λ other. not (shares_key keypos (key o keypos) other)) objects (not-true _ e)))
 allowed_with Bag keypos objects o e = by_test (list_any (is_same o) objects) refl
   where

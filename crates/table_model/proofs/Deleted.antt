@@ -81,7 +81,7 @@ new_keys table (o ∷ objects) k new some =
     ⊎_elim (λ here. no_member table o k (key o table.keypos) here (not-true _ parts.0)) (λ later. new_keys table objects k parts.1 later)
     (or_cases (has_key table.keypos k o) (list_any (has_key table.keypos k) objects) some)
 
-none_shares : (keypos : ℕ) (objects : List TermValue) → list_any (shares_key keypos None) objects ≡ false
+pub none_shares : (keypos : ℕ) (objects : List TermValue) → list_any (shares_key keypos None) objects ≡ false
 none_shares keypos [] = refl
 none_shares keypos (x ∷ xs) = none_shares keypos xs
 

@@ -13,7 +13,7 @@ use Rattle.table_model.specs.Operations.{IsSameTable, insert_objects, is_member,
 use Rattle.table_model.specs.Sets.{in_a_set}
 use Rattle.table_model.proofs.Placing.{filter-ascending, filter_swap}
 use Rattle.table_model.proofs.Inserted.{other_keys_kept, in_a_bag, in_a_duplicate_bag}
-use Rattle.table_model.proofs.Deleted.{absent_has_none, member_has_some}
+use Rattle.table_model.proofs.Deleted.{none_shares, absent_has_none, member_has_some}
 use Rattle.table_model.proofs.Counters.{key_found}
 
 -- ---- deletions
@@ -71,10 +71,6 @@ member_same a b k e = ⊎_elim
 new_same : (a b : Table) (o : TermValue) (mine : Option TermValue) → IsSameTable a b
     → list_any (shares_key a.keypos mine) a.objects ≡ list_any (shares_key b.keypos mine) b.objects
 new_same a b o None s = none_shares a.keypos a.objects ∙ sym (none_shares b.keypos b.objects)
-  where
-    none_shares : (keypos : ℕ) (objects : List TermValue) → list_any (shares_key keypos None) objects ≡ false
-    none_shares keypos [] = refl
-    none_shares keypos (x ∷ xs) = none_shares keypos xs
 new_same a b o (Some k) s = member_same a b k (s.objects k)
 
 pub all_new_same : (objects : List TermValue) (a b : Table) → IsSameTable a b → are_new a objects ≡ are_new b objects
