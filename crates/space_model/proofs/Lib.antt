@@ -1,6 +1,7 @@
 pub mod Members
 pub mod Minima
 pub mod FreeRuns
+pub mod Segments
 pub mod Places
 pub mod Reordered
 pub mod Pendings

@@ -1,7 +1,9 @@
 -- Lemmas: the least number that passes a test, and powers of two.
-use Rattle.std.proofs.Common.{◌≡◌, ◌≤◌, ◌<◌, ⊎_elim, ℕ, zero, suc, ◌+◌, ◌^◌, Bool, true, false, refl, sym, subst, arith}
+use Rattle.std.proofs.Common.{◌≡◌, ◌≤◌, ◌<◌, ⊎_elim, ℕ, zero, suc, ◌+◌, ◌^◌, Bool, true, false, refl, sym, ap, ◌∙◌, subst, arith}
 use Rattle.std.specs.Prelude.{nat_lt}
 use Rattle.std.proofs.Math.Nat.{two-pow-succ}
+use Rattle.std.proofs.Math.Pow.{pow_mono}
+use Rattle.std.proofs.lemmas.Nat.{pow_pos}
 use Rattle.std.proofs.lemmas.Bool.{cases_order, lt-ltb, ltb-true, ltb-false}
 use Rattle.space_model.specs.Least.{or_next, least_from, log2}
 
@@ -68,3 +70,23 @@ at_most n (suc e) some below =
 
 pub log2_below : (n : ℕ) → 1 ≤ n → 2 ^ log2 n ≤ n
 log2_below n some = at_most n (log2 n) some (log2_least n).below
+
+pub next_power : (e : ℕ) → 2 ^ (e + 1) ≡ 2 ^ e + 2 ^ e
+next_power e = let next : e + 1 ≡ suc e = omega arith in ap (λ n. 2 ^ n) next ∙ two-pow-succ e
+
+-- the exponent is the one with the number between its power and the next
+pub log2_is : (n e : ℕ) → 1 ≤ n → 2 ^ e ≤ n → n < 2 ^ (e + 1) → log2 n ≡ e
+log2_is n e some low high =
+    let below = log2_below n some in
+    let above = log2_above n in
+    ⊎_elim (λ (same : log2 n ≡ e). same)
+    (λ apart. ⊎_elim
+    (λ (l : log2 n < e). absurd (let more : 2 ^ (log2 n + 1) ≤ 2 ^ e = pow_mono (omega arith) in omega (arith, more, low, above)))
+    (λ (l : e < log2 n). absurd (let more : 2 ^ (e + 1) ≤ 2 ^ log2 n = pow_mono (omega arith) in omega (arith, more, high, below))) apart)
+    (cases_order (log2 n) e)
+
+pub log2_power : (e : ℕ) → log2 (2 ^ e) ≡ e
+log2_power e =
+    let positive = pow_pos e in
+    let next = next_power e in
+    log2_is (2 ^ e) e (omega (arith, positive)) (omega arith) (omega (arith, positive, next))

@@ -1,29 +1,11 @@
 -- Lemmas: a slot is one of the slots, and one more slot splits one slot.
 use Rattle.std.proofs.Common.{◌≡◌, ◌≤◌, ◌<◌, ◌⊎◌, inl, inr, ⊎_elim, ℕ, zero, suc, ◌+◌, ◌-◌, ◌*◌, ◌/◌, ◌%◌, ◌^◌, cond, refl, sym, ap, ◌∙◌, subst, arith}
 use Rattle.std.specs.Prelude.{nat_lt}
-use Rattle.std.proofs.Math.Nat.{two-pow-succ}
-use Rattle.std.proofs.Math.Pow.{pow_mono}
 use Rattle.std.proofs.lemmas.Nat.{pow_pos, mod_below, mod-pow-add}
 use Rattle.std.proofs.lemmas.Bool.{cases_lt, cases_order, lt-ltb, le-ltb}
 use Rattle.space_model.specs.Least.{log2}
 use Rattle.space_model.specs.Slots.{slot_of}
-use Rattle.space_model.proofs.Minima.{log2_above, log2_below}
-
--- ---- powers
-
-next_power : (e : ℕ) → 2 ^ (e + 1) ≡ 2 ^ e + 2 ^ e
-next_power e = let next : e + 1 ≡ suc e = omega arith in ap (λ n. 2 ^ n) next ∙ two-pow-succ e
-
--- the exponent is the one with the number between its power and the next
-log2_is : (n e : ℕ) → 1 ≤ n → 2 ^ e ≤ n → n < 2 ^ (e + 1) → log2 n ≡ e
-log2_is n e some low high =
-    let below = log2_below n some in
-    let above = log2_above n in
-    ⊎_elim (λ (same : log2 n ≡ e). same)
-    (λ apart. ⊎_elim
-    (λ (l : log2 n < e). absurd (let more : 2 ^ (log2 n + 1) ≤ 2 ^ e = pow_mono (omega arith) in omega (arith, more, low, above)))
-    (λ (l : e < log2 n). absurd (let more : 2 ^ (e + 1) ≤ 2 ^ log2 n = pow_mono (omega arith) in omega (arith, more, high, below))) apart)
-    (cases_order (log2 n) e)
+use Rattle.space_model.proofs.Minima.{next_power, log2_above, log2_below, log2_is}
 
 -- ---- the low digits of a hash
 

@@ -1,5 +1,5 @@
 -- Runs that do not meet, and where a place is. This project's own.
-use Rattle.std.specs.Prelude.{◌≡◌, ◌≤◌, ◌<◌, ◌⊎◌, ℕ, ◌^◌, ◌%◌, true, List, [], ◌∷◌}
+use Rattle.std.specs.Prelude.{◌≡◌, ◌≤◌, ◌<◌, ◌⊎◌, ℕ, suc, ◌*◌, ◌^◌, ◌%◌, true, List, [], ◌∷◌}
 use Rattle.space_model.specs.Runs.{Run, run, end_of, is_maximal}
 
 -- a member of a list
@@ -26,6 +26,12 @@ pub record IsRun (largest units : ℕ) (r : Run) : Type 0 where
   pub exp : r.exp ≤ largest
   pub aligned : r.unit % 2 ^ r.exp ≡ 0
   pub ends : end_of r ≤ units
+
+-- a run lies in one segment of so many units
+pub record InSegment (segment_units : ℕ) (r : Run) : Type 0 where
+  pub segment : ℕ
+  pub begins : segment * segment_units ≤ r.unit
+  pub ends : end_of r ≤ suc segment * segment_units
 
 -- a maximal free run of at least this exponent
 pub record HasRoom (largest units : ℕ) (held : List Run) (exp : ℕ) (r : Run) : Type 0 where

@@ -2,7 +2,7 @@
 ghost use Rattle.std.specs.Prelude.{◌≡◌, ◌≤◌, ◌<◌, ℕ, ◌+◌, ◌^◌, List, Some, None, true, false};
 ghost use Rattle.space_model.specs.Least.{log2};
 ghost use Rattle.space_model.specs.Runs.{Run, run, end_of, is_free, is_maximal, front_of_smallest};
-ghost use Rattle.space_model.specs.Apart.{In, SameMembers, Apart, IsRun, IsPlace};
+ghost use Rattle.space_model.specs.Apart.{In, SameMembers, Apart, IsRun, InSegment, IsPlace};
 
 /// A place is the front of a maximal free run of at least its size: of the smallest, and of these of the lowest.
 #[tactic(auto, using(crate::proofs::Places::place_is))]
@@ -44,8 +44,14 @@ pub fn a_place_depends_on_the_held_runs_alone()
 {}
 
 /// The power of two with that exponent is at most the number, and the next one is greater.
-#[tactic(auto, using(crate::proofs::Minima::log2_below, crate::proofs::Minima::log2_above))]
+#[tactic(auto, using(crate::proofs::Minima::log2_below, crate::proofs::Minima::log2_above, crate::proofs::Minima::log2_power))]
 pub fn the_exponent_of_the_greatest_power_of_two()
     ensures at_most { (n : ℕ) → 1 ≤ n → 2 ^ log2 n ≤ n }
     ensures greatest { (n : ℕ) → n < 2 ^ (log2 n + 1) }
+    ensures of_a_power { (e : ℕ) → log2 (2 ^ e) ≡ e }
+{}
+
+/// A run lies in one segment, where segments have the units of the largest run.
+pub fn a_run_lies_in_one_segment()
+    ensures { (largest units : ℕ) (r : Run) → IsRun largest units r → InSegment (2 ^ largest) r }
 {}
