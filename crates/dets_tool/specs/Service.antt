@@ -1,8 +1,7 @@
 -- What is done with the terms of an input: the answer to each, and the bytes that are put for an answer. This project's own.
-use Rattle.std.specs.Prelude.{ℕ, List, ◌∷◌, ◌++◌, Option, Some, codes}
+use Rattle.std.specs.Prelude.{ℕ, List, ◌++◌, Option, Some, codes}
 use Rattle.dets_term.specs.TermValue.{TermValue}
-use Rattle.etf_model.specs.declared.tags.TheConstants.{VERSION}
-use Rattle.etf_model.specs.Canonical.{canonical}
+use Rattle.etf_model.specs.Canonical.{spelled}
 use Rattle.text_model.specs.Printed.{printed}
 use Rattle.run_model.specs.State.{State, first_state}
 use Rattle.run_model.specs.Step.{step as reply_step}
@@ -18,10 +17,6 @@ pub record Service (S : Type 0) : Type 0 where
 -- the printed form of a term, a full stop and a line end
 abbrev pub printed_line : TermValue → List ℕ
 printed_line t = printed t ++ codes ".\n"
-
--- the canonical spelling of a term
-abbrev pub spelled : TermValue → List ℕ
-spelled t = VERSION ∷ canonical t
 
 -- a term is its own answer
 abbrev pub itself : Unit {0} → TermValue → Option (TermValue × Unit {0})

@@ -6,7 +6,7 @@ use Rattle.std.specs.List.{concat, flat_map, zip, list_all}
 use Rattle.std.specs.Int.{bytes_high_first}
 use Rattle.std.specs.Str.{encode_utf8_all}
 use Rattle.dets_term.specs.TermValue.{TermValue, integer, atom, tuple, mapping, nil, cons, bits, elements}
-use Rattle.etf_model.specs.declared.tags.TheConstants.{SMALL_INTEGER, INTEGER, SMALL_BIG, ATOM_UTF8, SMALL_ATOM_UTF8, SMALL_TUPLE, LARGE_TUPLE, NIL, STRING}
+use Rattle.etf_model.specs.declared.tags.TheConstants.{VERSION, SMALL_INTEGER, INTEGER, SMALL_BIG, ATOM_UTF8, SMALL_ATOM_UTF8, SMALL_TUPLE, LARGE_TUPLE, NIL, STRING}
 use Rattle.etf_model.specs.declared.tags.TheConstants.{LIST, BINARY, BIT_BINARY, MAP}
 
 -- ---- numbers and bytes
@@ -130,3 +130,7 @@ abbrev mutual
   canonical_end nil = NIL ∷ []
   canonical_end (cons first rest) = canonical_end rest
   canonical_end (bits bs) = bits_spelling bs
+
+-- the canonical spelling, with the version in front
+abbrev pub spelled : TermValue → List ℕ
+spelled t = VERSION ∷ canonical t

@@ -11,7 +11,8 @@ use Rattle.host_model.specs.Torn.{outside_ranges, is_in-below, is_in-above, same
 use Rattle.host_model.specs.Writes.{Write, end_of, range_of, ranges_of, with_write, with_writes, LieInside, BeginInside, IsApart, AreApart, ReadBack}
 use Rattle.host_model.specs.WritesLaws.{length_kept, ReadBack-writes}
 use Rattle.file_model.specs.declared.head.Head.{Head}
-use Rattle.file_model.specs.Layout.{page_size, unit_size, run_size, gate_at, unit_at, segment_end, open_byte, page_of, unit_bytes}
+use Rattle.space_model.specs.Sizes.{unit_size}
+use Rattle.file_model.specs.Layout.{page_size, run_size, gate_at, unit_at, segment_end, open_byte, page_of, unit_bytes}
 use Rattle.file_model.specs.LayoutLaws.{in_segment, gate_apart_from_unit, run_before, runs_apart}
 use Rattle.file_model.specs.Header.{located}
 use Rattle.file_model.specs.Block.{Block, standing}

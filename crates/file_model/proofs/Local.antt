@@ -11,7 +11,8 @@ use Rattle.term_model.specs.declared.kind.Kind.{Kind}
 use Rattle.file_model.specs.declared.head.Head.{Head}
 use Rattle.file_model.specs.declared.reject.Reason.TheVariants.{NotAligned}
 use Rattle.file_model.specs.Layout.{run_size, unit_bytes}
-use Rattle.file_model.specs.Block.{Block, BlockHead, head_size, is_well_formed, block_head, one_key, block_with, block_of, proper_elements, term_in}
+use Rattle.space_model.specs.Sizes.{head_size}
+use Rattle.file_model.specs.Block.{Block, BlockHead, is_well_formed, block_head, one_key, block_with, block_of, proper_elements, term_in}
 use Rattle.file_model.specs.Block.{payload_in, standing_with, standing}
 use Rattle.file_model.specs.View.{units_in, view}
 use Rattle.file_model.specs.Gates.{AreRead, SeenAlike}

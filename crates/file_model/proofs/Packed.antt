@@ -8,7 +8,8 @@ use Rattle.term_model.specs.TermValue.{TermValue}
 use Rattle.term_model.specs.declared.kind.Kind.{Kind}
 use Rattle.file_model.specs.declared.reject.Reason.TheVariants.{NotAligned}
 use Rattle.file_model.specs.Layout.{run_size}
-use Rattle.file_model.specs.Block.{BlockHead, head_size, is_well_formed, if_well_formed, block_head, term_in, proper_elements, one_key, block_with}
+use Rattle.space_model.specs.Sizes.{head_size}
+use Rattle.file_model.specs.Block.{BlockHead, is_well_formed, if_well_formed, block_head, term_in, proper_elements, one_key, block_with}
 use Rattle.file_model.specs.Block.{block_of, payload_in, standing_with, standing}
 use Rattle.file_model.specs.BodyWrites.{head_bytes, block_bytes, IsPayload, block_at}
 

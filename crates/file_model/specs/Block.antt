@@ -12,6 +12,7 @@ use Rattle.table_model.specs.Table.{has_key}
 use Rattle.etf_model.specs.Format.{Reading}
 use Rattle.etf_model.specs.Spelling.{spelling}
 use Rattle.etf_model.specs.Canonical.{is_proper}
+use Rattle.space_model.specs.Sizes.{head_size}
 use Rattle.file_model.specs.declared.reject.Reason.{Reason}
 use Rattle.file_model.specs.declared.reject.Reason.TheVariants.{BadHead, NotAligned, BadPayload}
 use Rattle.file_model.specs.Layout.{run_size, unit_bytes}
@@ -27,9 +28,6 @@ abbrev pub Standing : Type 0
 Standing = Result Block Reason
 
 -- ---- the head: eight bytes
-
-abbrev pub head_size : ℕ
-head_size = 8
 
 pub record BlockHead : Type 0 where
   pub exp : ℕ

@@ -8,7 +8,8 @@ use Rattle.term_model.specs.declared.kind.Kind.{Kind}
 use Rattle.file_model.specs.declared.head.Head.{Head}
 use Rattle.file_model.specs.Layout.{page_size, unit_at, segment_end, run_size}
 use Rattle.file_model.specs.LayoutLaws.{EndsInSegment}
-use Rattle.file_model.specs.Block.{Block, head_size, term_in, proper_elements, one_key, standing}
+use Rattle.space_model.specs.Sizes.{head_size}
+use Rattle.file_model.specs.Block.{Block, term_in, proper_elements, one_key, standing}
 use Rattle.file_model.specs.View.{Units, units_in}
 use Rattle.file_model.specs.Gates.{HaveBlocks, StandsOpen}
 

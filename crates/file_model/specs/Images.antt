@@ -2,7 +2,8 @@
 use Rattle.std.specs.Prelude.{◌≡◌, ◌<◌, ℕ, ◌+◌, ◌%◌, ◌^◌, true, cond, ◌==◌, List, take, Option, Some, None}
 use Rattle.file_model.specs.declared.head.Head.{Head}
 use Rattle.file_model.specs.Layout.{unit_bytes}
-use Rattle.file_model.specs.Block.{BlockHead, head_size, block_head}
+use Rattle.space_model.specs.Sizes.{head_size}
+use Rattle.file_model.specs.Block.{BlockHead, block_head}
 use Rattle.file_model.specs.View.{units_in}
 
 -- how many bytes from a unit on are judged: those of its head, and of its payload where the head is well formed and the

@@ -3,12 +3,10 @@
 -- A page is the header's. Behind it stand segments: one byte for the gate of each unit, and then the units. How many
 -- units a segment has is a parameter here, per_segment; the header gives it (Header.antt).
 use Rattle.std.specs.Prelude.{ℕ, ◌+◌, ◌-◌, ◌*◌, ◌/◌, ◌%◌, ◌^◌, Bool, true, false, ◌==◌, List, length, slice_index, slice_range}
+use Rattle.space_model.specs.Sizes.{unit_size}
 
 abbrev pub page_size : ℕ
 page_size = 4096
-
-abbrev pub unit_size : ℕ
-unit_size = 64
 
 -- ---- the header's page
 

@@ -5,7 +5,8 @@ use Rattle.std.proofs.Math.Nat.{mul-suc, div-add-mod, mod-mod_of_dvd, mul-mod_ri
 use Rattle.std.proofs.lemmas.Nat.{mul-le, mod_below, pow_pos, pow_below, pow-add}
 use Rattle.std.proofs.lemmas.Nat.Gcd.{dvd_of_mod-eq-zero}
 use Rattle.std.proofs.lemmas.Bool.{cases_lt}
-use Rattle.file_model.specs.Layout.{page_size, unit_size, segment_size, segment_at, gate_at, unit_at, segment_end, whole_segments}
+use Rattle.space_model.specs.Sizes.{unit_size}
+use Rattle.file_model.specs.Layout.{page_size, segment_size, segment_at, gate_at, unit_at, segment_end, whole_segments}
 
 -- ---- numbers
 

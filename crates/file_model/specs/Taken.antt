@@ -3,10 +3,8 @@ use Rattle.std.specs.Prelude.{ℕ, ◌+◌, ◌^◌, Bool, ◌&&◌, nat_lt, nat
 use Rattle.std.specs.List.{flat_map}
 use Rattle.term_model.specs.TermValue.{TermValue}
 use Rattle.term_model.specs.Order.{is_same}
-use Rattle.term_model.specs.Hash.{hash_of}
 use Rattle.table_model.specs.Table.{Table}
-use Rattle.etf_model.specs.declared.tags.TheConstants.{VERSION}
-use Rattle.etf_model.specs.Canonical.{canonical}
+use Rattle.table_model.specs.Walk.{hash_of_key}
 use Rattle.file_model.specs.declared.entry.Entry.{Entry}
 use Rattle.file_model.specs.declared.reject.Reason.TheVariants.{Overlaps, KeyTaken}
 use Rattle.file_model.specs.declared.reject.Reject.{Reject}
@@ -71,9 +69,9 @@ table_of v = record { kind = v.head.kind; keypos = v.head.keypos; objects = obje
 
 -- ---- what is known of a block without its objects
 
--- the hash of a key is that of its canonical spelling
+-- the hash of a key; it stays folded where it is cited
 unfoldable pub key_hash : TermValue → ℕ
-key_hash k = hash_of (VERSION ∷ canonical k)
+key_hash k = hash_of_key k
 
 abbrev pub entry_of : Block → Entry
 entry_of b = record { hash = key_hash b.key; unit = b.unit; exp = b.exp; count = length b.objects }

@@ -13,7 +13,8 @@ ghost use Rattle.file_model.specs.Header.{is_allowed, body_of, head_in, current_
 ghost use Rattle.file_model.specs.Free.{IsFreeIn};
 ghost use Rattle.file_model.specs.BodyWrites.{Body, MeetsNone};
 ghost use Rattle.file_model.specs.Fit.{has_no_rejects, is_sound, needs_repair, IsFit};
-ghost use Rattle.file_model.specs.Layout.{page_of, is_open_at, unit_size, gate_at, unit_at, segment_end, whole_segments};
+ghost use Rattle.space_model.specs.Sizes.{unit_size};
+ghost use Rattle.file_model.specs.Layout.{page_of, is_open_at, gate_at, unit_at, segment_end, whole_segments};
 ghost use Rattle.file_model.specs.LayoutLaws.{EndsInSegment};
 ghost use Rattle.file_model.specs.Block.{Block, Standing, standing, term_in};
 ghost use Rattle.file_model.specs.Stands.{StandsAligned};

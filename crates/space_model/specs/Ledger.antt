@@ -5,23 +5,17 @@ use Rattle.std.specs.Prelude.{filter_map, length, sum_by, bytes_eq, Option, Some
 use Rattle.std.specs.List.{list_any}
 use Rattle.space_model.specs.Least.{least_from}
 use Rattle.space_model.specs.Runs.{Run, run, place}
+use Rattle.space_model.specs.Sizes.{unit_size, head_size}
 
 -- ---- what a payload needs
 
--- the bytes of a unit, and those of the head in front of a payload
-abbrev pub unit_bytes : ℕ
-unit_bytes = 64
-
-abbrev pub head_bytes : ℕ
-head_bytes = 8
-
 -- the least exponent of a block with room for a payload of so many bytes
 abbrev pub exponent : ℕ → ℕ
-exponent bytes = least_from (λ exp. nat_le (head_bytes + bytes) (unit_bytes * 2 ^ exp)) 0 bytes
+exponent bytes = least_from (λ exp. nat_le (head_size + bytes) (unit_size * 2 ^ exp)) 0 bytes
 
 -- whether a whole segment of so many units has no room for a payload of so many bytes
 abbrev pub is_too_large : ℕ → ℕ → Bool
-is_too_large segment_units bytes = nat_lt (unit_bytes * segment_units) (head_bytes + bytes)
+is_too_large segment_units bytes = nat_lt (unit_size * segment_units) (head_size + bytes)
 
 -- ---- the ledger
 
@@ -151,7 +145,7 @@ after_command segment_units l touches = or_before l (serve_all segment_units l t
 
 abbrev pub block_bytes : Option Packed → ℕ
 block_bytes None = 0
-block_bytes (Some q) = head_bytes + q.bytes
+block_bytes (Some q) = head_size + q.bytes
 
 -- at least 4,096 pending keys, or 1,048,576 bytes of pending blocks
 abbrev pub is_at_limit : Ledger → Bool

@@ -1,4 +1,5 @@
 -- ---- cited by public contracts
+pub mod Sizes
 pub mod Least
 pub mod Runs
 pub mod Apart

@@ -3,7 +3,8 @@ ghost use Rattle.std.specs.Prelude.{◌≡◌, ◌≤◌, ◌<◌, ℕ, ◌+◌,
 ghost use Rattle.std.specs.Prelude.{Err, true, false};
 ghost use Rattle.space_model.specs.Least.{log2};
 ghost use Rattle.space_model.specs.Runs.{Run, place};
-ghost use Rattle.space_model.specs.Ledger.{unit_bytes, head_bytes, exponent, is_too_large, Pending, Packed, Ledger, Placed, Touch, held, made};
+ghost use Rattle.space_model.specs.Sizes.{unit_size, head_size};
+ghost use Rattle.space_model.specs.Ledger.{exponent, is_too_large, Pending, Packed, Ledger, Placed, Touch, held, made};
 ghost use Rattle.space_model.specs.Ledger.{is_pending, packed_of, with_pending, place_growing, serve, serve_all, after_command, flush, flush_at_limit};
 ghost use Rattle.space_model.specs.LedgerOrder.{IsInOrder, IsFirstPlace, IsFull, IsFullAt, Serves, HasBlock, pending_keys, standing_run};
 
@@ -11,8 +12,8 @@ ghost use Rattle.space_model.specs.LedgerOrder.{IsInOrder, IsFirstPlace, IsFull,
 /// most.
 #[tactic(auto, using(crate::proofs::Rooms::has_room, crate::proofs::Rooms::no_room_below, crate::proofs::Rooms::fits_segment, crate::proofs::Rooms::too_large))]
 pub fn a_payload_has_room_in_the_least_block()
-    ensures room { (bytes : ℕ) → head_bytes + bytes ≤ unit_bytes * 2 ^ exponent bytes }
-    ensures no_smaller_one { (bytes exp : ℕ) → exp < exponent bytes → unit_bytes * 2 ^ exp < head_bytes + bytes }
+    ensures room { (bytes : ℕ) → head_size + bytes ≤ unit_size * 2 ^ exponent bytes }
+    ensures no_smaller_one { (bytes exp : ℕ) → exp < exponent bytes → unit_size * 2 ^ exp < head_size + bytes }
     ensures in_a_segment { (largest bytes : ℕ) → is_too_large (2 ^ largest) bytes ≡ false → exponent bytes ≤ largest }
     ensures in_no_segment { (largest bytes : ℕ) → is_too_large (2 ^ largest) bytes ≡ true → largest < exponent bytes }
 {}

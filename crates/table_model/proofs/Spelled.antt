@@ -4,9 +4,9 @@ use Rattle.term_model.specs.TermValue.{TermValue}
 use Rattle.term_model.specs.IsTerm.{IsTerm}
 use Rattle.etf_model.specs.Spelling.{Spells, spelling}
 use Rattle.etf_model.specs.SpellingExact.{spelling-exact}
-use Rattle.etf_model.proofs.Beginnings.{same_whole}
+use Rattle.etf_model.specs.Beginnings.{same_whole}
 use Rattle.etf_model.proofs.CanonicalSpells.{canonical_spells}
-use Rattle.table_model.specs.Walk.{spelled}
+use Rattle.etf_model.specs.Canonical.{spelled}
 
 -- terms that are spelled alike are equal
 pub equal_from_spelled : (j k : TermValue) → IsTerm j → IsTerm k → spelled j ≡ spelled k → j ≡ k

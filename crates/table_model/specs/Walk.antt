@@ -4,18 +4,13 @@ use Rattle.term_model.specs.TermValue.{TermValue, nil, chain}
 use Rattle.term_model.specs.Sorted.{sorted_by}
 use Rattle.term_model.specs.Hash.{hash_of}
 use Rattle.term_model.specs.Written.{number, pair}
-use Rattle.etf_model.specs.declared.tags.TheConstants.{VERSION}
-use Rattle.etf_model.specs.Canonical.{canonical}
+use Rattle.etf_model.specs.Canonical.{spelled}
 use Rattle.space_model.specs.Slots.{slot_of}
 use Rattle.space_model.specs.Ledger.{Touch}
 use Rattle.table_model.specs.Table.{Table, objects_of}
 use Rattle.table_model.specs.Touched.{keys_of, touched_among}
 
 -- ---- slots
-
--- the bytes of a term as they stand in a file: its canonical spelling, with the version in front
-abbrev pub spelled : TermValue → List ℕ
-spelled t = VERSION ∷ canonical t
 
 abbrev pub hash_of_key : TermValue → ℕ
 hash_of_key k = hash_of (spelled k)

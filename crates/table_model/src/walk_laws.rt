@@ -13,7 +13,8 @@ ghost use Rattle.table_model.specs.Operations.{is_member, delete_where, delete_k
 ghost use Rattle.table_model.specs.Counter.{Counted, update_counter};
 ghost use Rattle.table_model.specs.Allowed.{is_object};
 ghost use Rattle.table_model.specs.Touched.{is_touched};
-ghost use Rattle.table_model.specs.Walk.{spelled, keys_in, slot_of_key, walk_place, walked_keys, walked, touched_in_walk};
+ghost use Rattle.etf_model.specs.Canonical.{spelled};
+ghost use Rattle.table_model.specs.Walk.{keys_in, slot_of_key, walk_place, walked_keys, walked, touched_in_walk};
 
 /// Keys are walked by their slots, and in a slot by the order of terms.
 #[tactic(auto, using(crate::proofs::Walks::place_order))]

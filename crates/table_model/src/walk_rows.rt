@@ -9,7 +9,8 @@ ghost use Rattle.space_model.specs.LedgerOrder.{pending_keys};
 ghost use Rattle.table_model.specs.Table.{empty_table};
 ghost use Rattle.table_model.specs.Touched.{touched_by_insert};
 ghost use Rattle.table_model.specs.Operations.{delete_key, delete_all_objects, delete_object};
-ghost use Rattle.table_model.specs.Walk.{spelled, slot_of_key, slots_at_opening, slots_after, walked_keys, walked, touched_in_walk, list_bytes, touches_of};
+ghost use Rattle.etf_model.specs.Canonical.{spelled};
+ghost use Rattle.table_model.specs.Walk.{slot_of_key, slots_at_opening, slots_after, walked_keys, walked, touched_in_walk, list_bytes, touches_of};
 ghost use Rattle.table_model.specs.Filled.{filled, small_set, small_bag, two_numbers, one_counter, incremented};
 
 /// The slots of the keys 1, 2 and 3 among 256, and of 1 among 400.

@@ -1,5 +1,6 @@
 -- What the bytes of a stream of printed terms mean is steady.
-use Rattle.std.proofs.Common.{◌≡◌, ◌≢◌, ℕ, ◌+◌, Bool, true, false, cond, List, [], ◌∷◌, ◌++◌, drop, map, refl, ap, sym, ◌∙◌, subst, inl, inr, append-nil, add_assoc}
+use Rattle.std.proofs.Common.{◌≡◌, ◌≢◌, ℕ, ◌+◌, Bool, true, false, cond, List, [], ◌∷◌, ◌++◌, drop, map, refl, ap, sym, ◌∙◌, subst, inl, inr}
+use Rattle.std.proofs.Common.{append-nil, add_assoc}
 use Rattle.feed_model.specs.Meaning.{goes_on, ends, breaks, InFront, a_term, no_term}
 use Rattle.feed_model.specs.Steady.{Steady}
 use Rattle.feed_model.specs.Stream.{IsStream}
