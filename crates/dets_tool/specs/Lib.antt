@@ -4,7 +4,7 @@ pub mod InputFeed
 pub mod Service
 pub mod Run
 pub mod Status
--- ---- a middle: how a run goes on from command to command
+-- ---- a middle: how a run goes on from term to term
 pub mod Serving
 -- ---- lemmas: what both kinds of inputs have in common
 pub mod Inputs

@@ -19,13 +19,14 @@ use std::rt::Runtime;
 use std::{env, str};
 use term_text::TextFeed;
 
-/// Does what the words ask for: `run FILE` reads a script from the source and puts the reply to each command,
-/// with a full stop and a line end, in one piece. `Done`: the input was read to its end, and each of its commands
-/// replied to. `NotYet`: so many commands were replied to, and the next one is not built. `Input`: with `TooMuch`, a
-/// read gave a byte past 4,294,967,296; with `Text`, each command in front was replied to, and what stands behind
-/// them breaks this rule of printed terms, whose offset is counted from the start of the input. `SourceFault`,
-/// `Output`: a read or a put failed. `WordsRefused`: the words are not `run FILE`. Before the end of a run by `Output`
-/// or `Memory` a front of the replies is put.
+/// Does what the words ask for over the input, one term after the other: `run FILE` puts the reply to each, a command, `text`
+/// and `text decode` its printed form, each with a full stop and a line end, and `text encode` its canonical spelling; each in
+/// one piece. `text decode` reads spellings, and the other forms printed terms. `Done`: the input was read to its end, and each of
+/// its terms answered. `NotYet`: so many commands were replied to, and the next one is not built. `Input`: with `TooMuch`, a read
+/// gave a byte past 4,294,967,296; with `Text` or `Etf`, each term in front was answered, and what stands behind them has this
+/// fault, whose offset is counted from the start of the input, or is its length where spellings are cut. `SourceFault`, `Output`:
+/// a read or a put failed. `WordsRefused`: the words have none of these forms. Before the end of a run by `Output` or `Memory` a
+/// front of the output is put.
 pub fn dets_main<S: Source, H: Host>(
     alloc: Global,
     words: &Words,
