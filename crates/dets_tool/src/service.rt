@@ -5,7 +5,7 @@ use host_model::Host;
 
 /// One who answers terms, one after the other, and says what is put for each.
 pub(crate) trait Service: Drop {
-    ghost use Rattle.std.specs.Prelude.{◌≡◌, Some, None, IfOk, OnOk, IsErrOf};
+    ghost use Rattle.std.specs.Prelude.{◌≡◌, Some, None, Ok, IfOk, OnOk, IsErrOf};
     ghost use Rattle.dets_term.specs.TermValue.{TermValue};
     ghost use Rattle.dets_tool.specs.Service.{Service};
 
@@ -31,8 +31,9 @@ pub(crate) trait Service: Drop {
         ensures ready { OnOk result (is_ready self.new) }
         ensures host { host.new ≡ host.old };
 
-    /// Says that no more terms come.
+    /// Says that no more terms come. It answers a fault only where it wanted memory before.
     fn finish<H: Host>(&mut self, host: &mut H) -> Result<(), Stop>
+        ensures ready { is_ready self.old → result ≡ Ok tt }
         ensures ok { OnOk result (state self.new ≡ ended (state self.old)) }
         ensures host { host.new ≡ host.old };
 }
