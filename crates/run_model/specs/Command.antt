@@ -1,52 +1,58 @@
--- Commands: tuples whose first element is the client's name, an atom. The names of the operations are those of the
--- dets reference manual; the shape of commands is this project's own.
-use Rattle.std.specs.Prelude.{ℕ, Bool, true, false, cond, ◌&&◌, List, [], ◌∷◌, Option, Some, None, codes}
+-- Commands: tuples whose first element is the client's name, an atom, and whose second is the name of an operation. The
+-- operations are those of the dets reference manual; the shape of commands is this project's own.
+use Rattle.std.specs.Prelude.{ℕ, cond, List, [], ◌∷◌, Option, Some, None, codes, option_map}
 use Rattle.std.specs.Str.{bytes_eq}
-use Rattle.term_model.specs.TermValue.{TermValue, atom, tuple, nil, elements}
+use Rattle.term_model.specs.TermValue.{TermValue, atom, tuple, elements}
 
--- a command that is built, with its argument
-pub data Command : Type 0 where
-  -- {Client,open,[]}
-  open_table : Command
-  -- {Client,insert,Object}
-  insert_one : TermValue → Command
+-- what a command asks for, with its argument as it stands
+pub data Operation : Type 0 where
+  -- {Client,open,Options}
+  open_table : TermValue → Operation
+  -- {Client,close}
+  close_table : Operation
+  -- {Client,insert,ObjectOrList}
+  insert : TermValue → Operation
   -- {Client,lookup,Key}
-  look_up : TermValue → Command
+  lookup : TermValue → Operation
+  -- {Client,sync}
+  sync : Operation
 
-abbrev pub is_empty_list : TermValue → Bool
-is_empty_list nil = true
-is_empty_list other = false
+pub record Command : Type 0 where
+  -- the characters of the client's name
+  pub client : List ℕ
+  pub operation : Operation
 
--- a list has an element
-abbrev pub is_filled : List TermValue → Bool
-is_filled [] = false
-is_filled (t ∷ ts) = true
+-- the characters of an atom
+abbrev pub name_of : TermValue → Option (List ℕ)
+name_of (atom name) = Some name
+name_of other = None
 
--- an object of a table with keypos 1: a tuple of at least one element
-abbrev pub is_object : TermValue → Bool
-is_object (tuple parts) = is_filled (elements parts)
-is_object other = false
+-- the operation of a name without arguments
+abbrev pub bare_operation : List ℕ → Option Operation
+bare_operation name = cond (bytes_eq name (codes "close")) (Some close_table) (cond (bytes_eq name (codes "sync")) (Some sync) None)
 
--- the command of an operation and its argument
-abbrev pub operation : List ℕ → TermValue → Option Command
-operation name argument =
-    cond (bytes_eq name (codes "open") && is_empty_list argument) (Some open_table)
-    (cond (bytes_eq name (codes "insert") && is_object argument) (Some (insert_one argument))
-    (cond (bytes_eq name (codes "lookup")) (Some (look_up argument)) None))
+-- of a name and one argument
+abbrev pub operation_on : List ℕ → TermValue → Option Operation
+operation_on name argument =
+    cond (bytes_eq name (codes "open")) (Some (open_table argument))
+    (cond (bytes_eq name (codes "insert")) (Some (insert argument))
+    (cond (bytes_eq name (codes "lookup")) (Some (lookup argument)) None))
 
--- the same of a client and an operation that may be no atoms
-abbrev pub of_three_parts : TermValue → TermValue → TermValue → Option Command
-of_three_parts (atom client) (atom name) argument = operation name argument
-of_three_parts client name argument = None
+abbrev pub operation_of : List ℕ → List TermValue → Option Operation
+operation_of name [] = bare_operation name
+operation_of name (argument ∷ []) = operation_on name argument
+operation_of name (first ∷ second ∷ rest) = None
 
-abbrev pub of_parts : List TermValue → Option Command
-of_parts [] = None
-of_parts (a ∷ []) = None
-of_parts (a ∷ b ∷ []) = None
-of_parts (client ∷ name ∷ argument ∷ []) = of_three_parts client name argument
-of_parts (a ∷ b ∷ c ∷ d ∷ more) = None
+abbrev pub command_by : Option (List ℕ) → Option (List ℕ) → List TermValue → Option Command
+command_by (Some client) (Some name) arguments = option_map (λ operation. record { client = client; operation = operation }) (operation_of name arguments)
+command_by client name arguments = None
 
--- the command that a term is, if it is one that is built
+abbrev pub command_in : List TermValue → Option Command
+command_in [] = None
+command_in (client ∷ []) = None
+command_in (client ∷ name ∷ arguments) = command_by (name_of client) (name_of name) arguments
+
+-- the command that a term is, if it is one whose operation is built
 abbrev pub command_of : TermValue → Option Command
-command_of (tuple parts) = of_parts (elements parts)
+command_of (tuple parts) = command_in (elements parts)
 command_of other = None

@@ -2,7 +2,7 @@
 use Prim.Native.String.{String}
 use Rattle.std.specs.Prelude.{[], ◌∷◌}
 use Rattle.term_model.specs.TermValue.{TermValue, nil}
-use Rattle.term_model.specs.Written.{word, tuple_of}
+use Rattle.term_model.specs.Written.{word, tuple_of, pair}
 
 -- {Client,Op,Argument}
 abbrev pub command : String → String → TermValue → TermValue
@@ -19,3 +19,11 @@ inserts object = command "c" "insert" object
 -- {c,lookup,Key}
 abbrev pub looks_up : TermValue → TermValue
 looks_up key = command "c" "lookup" key
+
+-- {c,sync}
+abbrev pub syncs : TermValue
+syncs = pair (word "c") (word "sync")
+
+-- {c,close}
+abbrev pub closes : TermValue
+closes = pair (word "c") (word "close")

@@ -1,5 +1,12 @@
-//! Definitions of a run, which the crates above cite: states, commands, the step of a command, and the replies of a
-//! list of commands. It stands on `table_model`, and compares the definitions with worked rows.
+//! Definitions of a run, which the crates above cite: states, commands, the step of a command, the history of a file and
+//! a list of commands, and which images of the file a stop may leave. It stands on `table_model` and `file_model`, and
+//! compares the definitions with worked rows.
 #![tactic(auto)]
 
-pub mod rows;
+pub use options::{Access, OpenOptions, Repair};
+
+pub mod command_rows;
+pub mod history_rows;
+pub mod memory_rows;
+mod options;
+pub mod step_rows;

@@ -1,5 +1,6 @@
 -- ---- cited by public contracts
 pub mod Table
+pub mod TableCode
 pub mod Operations
 pub mod Counter
 pub mod Touched
