@@ -5,8 +5,9 @@ use Rattle.dets_term.specs.declared.term.Node.{Node}
 use Rattle.dets_term.specs.declared.term.Node.TheVariants.{Int, Atom, Tuple, Map, List as ListNode, Improper, Bits}
 use Rattle.dets_term.specs.TermValue.{TermValue, atom, tuple, nil, chain}
 use Rattle.dets_term.specs.Node.{shown, IsSound}
-use Rattle.run_model.specs.Command.{command_of, operation, of_three_parts, is_empty_list, is_object}
-use Rattle.dets_machine.specs.Command.{name_of}
+use Rattle.run_model.specs.Command.{name_of}
+use Rattle.run_model.specs.Step.{is_empty_list, is_filled_tuple}
+use Rattle.run_model.specs.InMemory.{command_of, operation, of_three_parts}
 
 -- a list of three by its elements
 pub three : (ts : List TermValue) (a b c : TermValue) → length ts ≡ 3 → Some a ≡ slice_get ts 0 → Some b ≡ slice_get ts 1 → Some c ≡ slice_get ts 2
@@ -61,20 +62,20 @@ is_empty_list_other (Improper [] tail) sound other = absurd (let some = sound.0 
 is_empty_list_other (Improper (t ∷ ts) tail) sound other = refl
 is_empty_list_other (Bits bytes used) sound other = refl
 
-pub is_object-tuple : (ts : List TermValue) → nat_lt 0 (length ts) ≡ is_object (tuple (chain ts nil))
-is_object-tuple [] = refl
-is_object-tuple (t ∷ ts) = grind (arith, nat_tests)
+pub is_filled_tuple-tuple : (ts : List TermValue) → nat_lt 0 (length ts) ≡ is_filled_tuple (tuple (chain ts nil))
+is_filled_tuple-tuple [] = refl
+is_filled_tuple-tuple (t ∷ ts) = grind (arith, nat_tests)
 
-pub is_object_other : (n : Node) → IsSound n → ((ts : List TermValue) → n ≡ Tuple ts → ⊥) → false ≡ is_object (shown n)
-is_object_other (Int v) sound other = refl
-is_object_other (Atom name) sound other = refl
-is_object_other (Tuple parts) sound other = absurd (other parts refl)
-is_object_other (Map pairs) sound other = refl
-is_object_other (ListNode []) sound other = refl
-is_object_other (ListNode (t ∷ ts)) sound other = refl
-is_object_other (Improper [] tail) sound other = absurd (let some = sound.0 in omega arith)
-is_object_other (Improper (t ∷ ts) tail) sound other = refl
-is_object_other (Bits bytes used) sound other = refl
+pub is_filled_tuple_other : (n : Node) → IsSound n → ((ts : List TermValue) → n ≡ Tuple ts → ⊥) → false ≡ is_filled_tuple (shown n)
+is_filled_tuple_other (Int v) sound other = refl
+is_filled_tuple_other (Atom name) sound other = refl
+is_filled_tuple_other (Tuple parts) sound other = absurd (other parts refl)
+is_filled_tuple_other (Map pairs) sound other = refl
+is_filled_tuple_other (ListNode []) sound other = refl
+is_filled_tuple_other (ListNode (t ∷ ts)) sound other = refl
+is_filled_tuple_other (Improper [] tail) sound other = absurd (let some = sound.0 in omega arith)
+is_filled_tuple_other (Improper (t ∷ ts) tail) sound other = refl
+is_filled_tuple_other (Bits bytes used) sound other = refl
 
 -- what is asked by a client and an operation that are atoms
 pub operation-of_three_parts : (client op argument : TermValue) (a b : List ℕ) → Some a ≡ name_of client → Some b ≡ name_of op

@@ -3,7 +3,7 @@ use Rattle.std.specs.Prelude.{ℕ, ◌<◌, List, Option, Some, None}
 use Rattle.dets_term.specs.TermValue.{TermValue, atom, depth}
 use Rattle.dets_machine.specs.declared.command.Command.{Command}
 use Rattle.dets_machine.specs.declared.command.Command.TheVariants.{Open, Insert, Lookup}
-use Rattle.run_model.specs.Command.{Command as Asked, open_table, insert_one, look_up}
+use Rattle.run_model.specs.InMemory.{Command as Asked, open_table, insert_one, look_up}
 
 -- the command of the definitions that one of the code stands for
 abbrev pub asked_by : Command → Asked
@@ -16,8 +16,3 @@ abbrev pub IsBelow : ℕ → Command → Type 0
 IsBelow levels Open = Unit {0}
 IsBelow levels (Insert object) = depth object.now < levels
 IsBelow levels (Lookup key) = Unit {0}
-
--- the characters of an atom
-abbrev pub name_of : TermValue → Option (List ℕ)
-name_of (atom name) = Some name
-name_of other = None

@@ -3,8 +3,10 @@ ghost use Rattle.std.specs.Prelude.{◌≡◌, ◌<◌, [], ◌∷◌, None, IfS
 ghost use Rattle.std.specs.Option.{option_copied};
 ghost use Rattle.std.specs.Str.{bytes_eq, chars};
 ghost use Rattle.dets_term.specs.TermValue.{tuple, chain, nil, depth};
-ghost use Rattle.run_model.specs.Command.{command_of, operation, is_empty_list, is_object};
-ghost use Rattle.dets_machine.specs.Command.{asked_by, name_of, IsBelow};
+ghost use Rattle.run_model.specs.Command.{name_of};
+ghost use Rattle.run_model.specs.Step.{is_empty_list, is_filled_tuple};
+ghost use Rattle.run_model.specs.InMemory.{command_of, operation};
+ghost use Rattle.dets_machine.specs.Command.{asked_by, IsBelow};
 
 use dets_term::{Node, Term};
 
@@ -38,7 +40,7 @@ fn operation<'a>(name: &str, argument: &'a Term) -> Option<Command<'a>>
 {
     if is_word(name, "open") && is_empty_list(argument) {
         Some(Command::Open)
-    } else if is_word(name, "insert") && is_object(argument) {
+    } else if is_word(name, "insert") && is_filled_tuple(argument) {
         Some(Command::Insert(argument))
     } else if is_word(name, "lookup") {
         Some(Command::Lookup(argument))
@@ -88,8 +90,8 @@ fn is_empty_list(term: &Term) -> bool
 }
 
 /// Whether a term is a tuple of at least one element.
-fn is_object(term: &Term) -> bool
-    ensures { result ≡ is_object term.now }
+fn is_filled_tuple(term: &Term) -> bool
+    ensures { result ≡ is_filled_tuple term.now }
 {
     match term.node() {
         Node::Tuple(parts) => parts.len() > 0,

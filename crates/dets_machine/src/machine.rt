@@ -1,9 +1,7 @@
 //! The machine that serves one table.
 ghost use Rattle.std.specs.Prelude.{◌≡◌, ◌<◌, ◌↔◌, true, false, Some, None, IfOk, IfErr, OnOk, IsErrOf};
 ghost use Rattle.dets_term.specs.TermValue.{depth};
-ghost use Rattle.run_model.specs.Command.{open_table, insert_one, look_up};
-ghost use Rattle.run_model.specs.State.{first_state};
-ghost use Rattle.run_model.specs.Step.{serve, step, after_exit};
+ghost use Rattle.run_model.specs.InMemory.{open_table, insert_one, look_up, first_state, serve, step, after_exit};
 ghost use Rattle.dets_machine.specs.Command.{asked_by, IsBelow};
 ghost use Rattle.dets_machine.specs.declared.machine.Stop.TheVariants.{Memory as OutOfMemory};
 

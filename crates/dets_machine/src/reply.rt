@@ -3,7 +3,7 @@ ghost use Rattle.std.specs.Prelude.{◌≡◌, ◌≤◌, length, IfOk};
 ghost use Rattle.std.specs.Str.{chars};
 ghost use Rattle.dets_term.specs.TermValue.{atom, chain, nil};
 ghost use Rattle.dets_term.specs.Parts.{deepest};
-ghost use Rattle.run_model.specs.Step.{ok, ok_table};
+ghost use Rattle.run_model.specs.Reply.{ok, ok_table};
 
 use crate::Memory;
 use dets_term::{Term, TermList, within_limits};

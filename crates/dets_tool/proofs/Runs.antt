@@ -8,7 +8,7 @@ use Rattle.feed_model.specs.Meaning.{Behind, goes_on, ends, breaks, a_term, no_t
 use Rattle.feed_model.specs.Stream.{IsStream}
 use Rattle.feed_model.specs.Steady.{Steady}
 use Rattle.feed_model.specs.OneAnswer.{a_stream}
-use Rattle.run_model.specs.Step.{answers}
+use Rattle.run_model.specs.History.{answers}
 use Rattle.host_model.specs.Source.{Stream}
 use Rattle.host_model.specs.Host.{SaysFront}
 use Rattle.dets_tool.specs.declared.status.Status.{Status}

@@ -10,7 +10,7 @@ use Rattle.feed_model.specs.Meaning.{goes_on, ends, a_term, no_term, Meaning}
 use Rattle.feed_model.specs.Feed.{Feed, total, Gives, gives_behind, IsNext}
 use Rattle.feed_model.specs.Stream.{IsStream}
 use Rattle.feed_model.specs.Steady.{Steady}
-use Rattle.run_model.specs.Step.{answers}
+use Rattle.run_model.specs.History.{answers}
 use Rattle.host_model.specs.Host.{Shown}
 use Rattle.dets_tool.specs.declared.status.Status.{Status}
 use Rattle.dets_tool.specs.declared.status.Status.TheVariants.{Done, Input, WordsRefused, SourceFault, Output, Memory, NotYet}

@@ -8,7 +8,7 @@ use Rattle.feed_model.specs.Stream.{IsStream}
 use Rattle.feed_model.specs.Steady.{Steady}
 use Rattle.feed_model.specs.OneAnswer.{one_list}
 use Rattle.feed_model.specs.Growth.{first_stay, stream_stays}
-use Rattle.run_model.specs.Step.{answers}
+use Rattle.run_model.specs.History.{answers}
 use Rattle.host_model.specs.Source.{Stream}
 use Rattle.dets_tool.specs.declared.status.InputWhy.TheVariants.{TooMuch, Text, Etf}
 use Rattle.dets_tool.specs.declared.status.Status.{Status}

@@ -5,7 +5,7 @@ use Rattle.std.specs.Prelude.{◌≡◌, ℕ, ◌<◌, ◌≤◌, ◌^◌, Bool,
 use Rattle.dets_term.specs.TermValue.{TermValue}
 use Rattle.feed_model.specs.Meaning.{Behind, goes_on, ends, breaks, Meaning}
 use Rattle.feed_model.specs.Stream.{IsStream}
-use Rattle.run_model.specs.Step.{answers}
+use Rattle.run_model.specs.History.{answers}
 use Rattle.host_model.specs.Source.{Stream}
 use Rattle.dets_tool.specs.declared.status.InputWhy.TheVariants.{TooMuch}
 use Rattle.dets_tool.specs.declared.status.Status.{Status}

@@ -3,8 +3,7 @@ use Rattle.std.specs.Prelude.{ℕ, List, ◌++◌, Option, Some, codes}
 use Rattle.dets_term.specs.TermValue.{TermValue}
 use Rattle.etf_model.specs.Canonical.{spelled}
 use Rattle.text_model.specs.Printed.{printed}
-use Rattle.run_model.specs.State.{State, first_state}
-use Rattle.run_model.specs.Step.{step as reply_step}
+use Rattle.run_model.specs.InMemory.{State, first_state, step as reply_step}
 
 -- over the states between two terms
 pub record Service (S : Type 0) : Type 0 where

@@ -4,7 +4,7 @@ use Rattle.dets_term.specs.TermValue.{TermValue}
 use Rattle.feed_model.specs.Meaning.{Behind, goes_on, ends, breaks, a_term, no_term, Meaning}
 use Rattle.feed_model.specs.Feed.{Feed}
 use Rattle.feed_model.specs.Stream.{IsStream}
-use Rattle.run_model.specs.Step.{answers}
+use Rattle.run_model.specs.History.{answers}
 use Rattle.host_model.specs.Counts.{Rose}
 use Rattle.host_model.specs.Host.{Shown, SaysFront}
 use Rattle.dets_tool.specs.declared.status.Status.{Status}

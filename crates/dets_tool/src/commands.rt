@@ -15,7 +15,7 @@ pub(crate) struct Commands {
 
 impl Commands {
     ghost use Rattle.std.specs.Prelude.{◌≡◌, false};
-    ghost use Rattle.run_model.specs.State.{first_state};
+    ghost use Rattle.run_model.specs.InMemory.{first_state};
 
     /// No command was answered yet.
     pub(crate) fn new(alloc: Global) -> Commands
@@ -30,8 +30,7 @@ impl Commands {
 
 impl Service for Commands {
     ghost use Rattle.std.specs.Prelude.{◌≡◌, false};
-    ghost use Rattle.run_model.specs.State.{State as ServerState};
-    ghost use Rattle.run_model.specs.Step.{after_exit};
+    ghost use Rattle.run_model.specs.InMemory.{State as ServerState, after_exit};
     ghost use Rattle.dets_tool.specs.Service.{serving};
 
     ghost State = { ServerState };

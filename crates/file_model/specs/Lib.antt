@@ -3,6 +3,7 @@
 -- ---- cited by public contracts
 pub mod Layout
 pub mod Header
+pub mod HeaderCode
 pub mod Block
 pub mod View
 pub mod Taken

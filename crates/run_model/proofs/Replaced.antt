@@ -11,7 +11,7 @@ not_old_at : (table : Table) → objects_of table (number 1) ≡ pair (number 1)
     → objects_of table (number 1) ≡ objects_in (state_at replacing moment) (number 1) → ⊥
 not_old_at table old moment at same =
     let is_new : pair (number 1) (number 1) ∷ [] ≡ pair (number 1) (number 2) ∷ [] =
-        subst (λ o. o ≡ pair (number 1) (number 2) ∷ []) old (subst (λ m. objects_of table (number 1) ≡ objects_in (state_at replacing m) (number 1)) at same) in
+    subst (λ o. o ≡ pair (number 1) (number 2) ∷ []) old (subst (λ m. objects_of table (number 1) ≡ objects_in (state_at replacing m) (number 1)) at same) in
     absurd cc
 
 not_old : (table : Table) → objects_of table (number 1) ≡ pair (number 1) (number 1) ∷ [] → MayBeFound replacing 3 table → ⊥

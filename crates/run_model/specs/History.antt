@@ -1,11 +1,11 @@
 -- The history of a file and a list of commands: its states, the replies, and where all is on disk. This project's own.
-use Rattle.std.specs.Prelude.{ℕ, zero, suc, Bool, true, false, cond, not, ◌&&◌, ◌||◌, List, [], ◌∷◌, map, length, Option, Some, None}
+use Rattle.std.specs.Prelude.{ℕ, zero, suc, Bool, true, false, cond, not, ◌&&◌, ◌||◌, List, [], ◌∷◌, map, length, Option}
 use Rattle.std.specs.Option.{option_map_or}
 use Rattle.term_model.specs.TermValue.{TermValue}
 use Rattle.term_model.specs.Order.{is_same}
 use Rattle.run_model.specs.Command.{Command, Operation, sync, command_of}
 use Rattle.run_model.specs.Reply.{ok}
-use Rattle.run_model.specs.State.{State, is_open, first_state, objects_in}
+use Rattle.run_model.specs.State.{State, is_open, first_state}
 use Rattle.run_model.specs.Step.{step}
 
 -- the answers of a step to a list of terms, up to the first that has none

@@ -1,10 +1,12 @@
 -- What the program serves so far: a set whose key stands in front, which is kept in memory and not in a file. It opens
 -- once, inserts one object and looks up a key; of other commands this step says nothing.
-use Rattle.std.specs.Prelude.{ℕ, Bool, true, false, cond, ◌&&◌, List, [], ◌∷◌, Option, Some, None, codes, option_and_then}
+use Rattle.std.specs.Prelude.{ℕ, Bool, true, false, cond, ◌&&◌, List, [], ◌∷◌, Option, Some, None, codes, option_and_then, refl}
 use Rattle.std.specs.Str.{bytes_eq}
+use Rattle.std.specs.Coded.{Coded, code_by, coded×, coded_bool}
 use Rattle.term_model.specs.TermValue.{TermValue, atom, tuple, nil, chain, elements}
 use Rattle.term_model.specs.declared.kind.Kind.TheVariants.{Set}
 use Rattle.table_model.specs.Table.{Table, empty_table, insert_object, objects_of}
+use Rattle.table_model.specs.TableCode.{coded_table}
 use Rattle.run_model.specs.Reply.{ok, ok_table}
 use Rattle.run_model.specs.Step.{is_empty_list, is_filled_tuple}
 
@@ -45,6 +47,9 @@ pub record State : Type 0 where
   -- it stays where no client has it open
   pub table : Table
   pub is_open : Bool
+
+abbrev pub coded_state : Coded State
+coded_state = code_by (Table × Bool) (coded× coded_table coded_bool) (λ s. (s.table, s.is_open)) (λ p. record { table = p.0; is_open = p.1 }) (λ _. refl)
 
 abbrev pub first_state : State
 first_state = record { table = empty_table Set 1; is_open = false }

@@ -1,5 +1,5 @@
 -- Small files and histories that worked rows look into.
-use Rattle.std.specs.Prelude.{ℕ, Bool, true, false, ◌==◌, ◌||◌, List, [], ◌∷◌, Option, Some, None, codes}
+use Rattle.std.specs.Prelude.{ℕ, Bool, false, ◌==◌, ◌||◌, List, [], ◌∷◌, codes}
 use Rattle.term_model.specs.TermValue.{TermValue}
 use Rattle.term_model.specs.Written.{number, pair}
 use Rattle.term_model.specs.declared.kind.Kind.{Kind}
@@ -8,12 +8,12 @@ use Rattle.table_model.specs.Table.{Table}
 use Rattle.table_model.specs.Filled.{filled}
 use Rattle.etf_model.specs.Canonical.{spelled}
 use Rattle.space_model.specs.Runs.{Run, run}
-use Rattle.space_model.specs.Ledger.{Standing, Pending, Ledger, pending_at, opened as opened_ledger}
+use Rattle.space_model.specs.Ledger.{Standing, Ledger, pending_at, opened as opened_ledger}
 use Rattle.file_model.specs.Taken.{table_of}
 use Rattle.file_model.specs.Block.{Block}
 use Rattle.file_model.specs.Rows.{set_block, small_view}
 use Rattle.run_model.specs.declared.options.Access.TheVariants.{ReadWrite}
-use Rattle.run_model.specs.State.{Kept, File, kept, OpenTable, State, closed, opened}
+use Rattle.run_model.specs.State.{Kept, File, kept, OpenTable, closed}
 use Rattle.run_model.specs.History.{History, history_from}
 use Rattle.run_model.specs.Written.{opens, inserts, syncs}
 

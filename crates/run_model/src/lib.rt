@@ -7,6 +7,7 @@ pub use options::{Access, OpenOptions, Repair};
 
 pub mod command_rows;
 pub mod history_rows;
+pub mod laws;
 pub mod memory_rows;
 mod options;
 pub mod step_rows;

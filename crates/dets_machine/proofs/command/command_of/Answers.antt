@@ -1,5 +1,5 @@
 use Rattle.std.proofs.Common.{◌∙◌, ap, sym}
-use Rattle.run_model.specs.Command.{command_of}
+use Rattle.run_model.specs.InMemory.{command_of}
 use Rattle.dets_machine.proofs.Nodes.{operation-of_three_parts}
 use Rattle.dets_machine.proofs.command.command_of.Goals as goal
 

@@ -1,6 +1,6 @@
 use Rattle.std.proofs.Common.{◌∙◌, ap, sym, nat_eq}
 use Rattle.dets_term.specs.Node.{shown}
-use Rattle.run_model.specs.Command.{is_empty_list}
+use Rattle.run_model.specs.Step.{is_empty_list}
 use Rattle.dets_machine.proofs.Nodes.{is_empty_list-chain, is_empty_list_other}
 use Rattle.dets_machine.proofs.command.is_empty_list.Goals as goal
 

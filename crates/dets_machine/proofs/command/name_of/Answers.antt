@@ -1,5 +1,5 @@
 use Rattle.std.proofs.Common.{◌∙◌, ap}
-use Rattle.dets_machine.specs.Command.{name_of}
+use Rattle.run_model.specs.Command.{name_of}
 use Rattle.dets_machine.proofs.Nodes.{name_of_other}
 use Rattle.dets_machine.proofs.command.name_of.Goals as goal
 

@@ -1,7 +1,7 @@
 use Rattle.std.proofs.Common.{List, ◌∙◌, ap, sym}
 use Rattle.dets_term.specs.Node.{shown}
 use Rattle.dets_term.specs.TermValue.{TermValue, tuple, chain, nil}
-use Rattle.run_model.specs.Command.{command_of}
+use Rattle.run_model.specs.InMemory.{command_of}
 use Rattle.dets_machine.proofs.Nodes.{three, command_of_other_tuple, command_of_other}
 use Rattle.dets_machine.proofs.command.three_parts.Goals as goal
 use Rattle.dets_machine.proofs.command.three_parts.Goals.{in_default-via-in-Tuple+else-len-eq3, in_default-via-in_default}

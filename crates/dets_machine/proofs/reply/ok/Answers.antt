@@ -1,7 +1,7 @@
 use Rattle.std.proofs.Common.{◌≡◌, ◌∙◌, ap}
 use Rattle.std.proofs.lemmas.Result.{IfOk-weaker}
 use Rattle.dets_term.specs.TermValue.{atom}
-use Rattle.run_model.specs.Step.{ok}
+use Rattle.run_model.specs.Reply.{ok}
 use Rattle.dets_machine.proofs.Words.{chars_ok}
 use Rattle.dets_machine.proofs.reply.ok.Goals as goal
 
