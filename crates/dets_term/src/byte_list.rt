@@ -1,4 +1,4 @@
-ghost use Rattle.std.specs.Prelude.{◌≡◌, ◌-◌, ◌%◌, ◌^◌, ◌≤◌, List, [], ◌∷◌, ◌++◌, take, length, IfOk, OnOk, OnErr, slice_get};
+ghost use Rattle.std.specs.Prelude.{◌≡◌, ◌-◌, ◌%◌, ◌^◌, ◌≤◌, List, [], ◌∷◌, ◌++◌, take, drop, length, IfOk, OnOk, OnErr, slice_get};
 ghost use Rattle.term_model.specs.BitString.{byte_bits, bits_of, MayUse, IsPadded};
 
 use crate::Memory;
@@ -55,6 +55,14 @@ impl ByteList {
         self.bytes.extend_from_slice(items)
     }
 
+    /// Writes bytes over the first ones.
+    pub fn overwrite_front(&mut self, items: &[u8])
+        requires { length items.now ≤ length self.old }
+        ensures { self.new ≡ items.now ++ drop (length items.now) self.old }
+    {
+        overwrite(self.bytes.as_mut_slice(), items);
+    }
+
     /// Clears the bits of the last byte that are not used.
     pub(crate) fn clear_unused(&mut self, used: u8)
         requires { MayUse self.old used }
@@ -87,6 +95,14 @@ impl ByteList {
     {
         self.bytes.as_slice()
     }
+}
+
+/// Writes bytes over the first ones of others.
+fn overwrite(bytes: &mut [u8], items: &[u8])
+    requires { length items.now ≤ length bytes.old }
+    ensures { bytes.new ≡ items.now ++ drop (length items.now) bytes.old }
+{
+    bytes[..items.len()].copy_from_slice(items);
 }
 
 /// A byte with its lower bits cleared: so many from the highest on stay.

@@ -193,6 +193,15 @@ impl Term {
         &self.node
     }
 
+    /// What the term is made of, taken out of it.
+    pub fn into_node(self) -> Node
+        ensures value { shown result ≡ self }
+        ensures sound { IsSound result }
+    {
+        let Term { node } = self;
+        node
+    }
+
     /// The same term once more.
     #[cycle(copy)]
     pub fn copy(&self, alloc: Global) -> Result<Term, Memory>

@@ -3,7 +3,7 @@ ghost use Rattle.std.specs.List.{flat_map};
 ghost use Rattle.std.specs.Str.{chars};
 ghost use Rattle.dets_term.specs.TermValue.{nil, chain};
 ghost use Rattle.dets_term.specs.BitString.{bits_of, IsPadded};
-ghost use Rattle.etf_model.specs.Canonical.{canonical, head, tuple_head, text_head, magnitude_bytes, big_spelling};
+ghost use Rattle.etf_model.specs.Canonical.{canonical, spelled, head, tuple_head, text_head, magnitude_bytes, big_spelling};
 ghost use Rattle.etf_model.specs.Canonical.{integer_spelling, atom_spelling, bits_spelling, is_byte, byte_value, are_bytes};
 
 use crate::Memory;
@@ -21,6 +21,17 @@ pub fn encode(alloc: Global, term: &Term) -> Result<ByteList, Memory>
     let mut out = ByteList::new(alloc);
     out.push(VERSION)?;
     encode_term(&mut out, term)?;
+    Ok(out)
+}
+
+/// The canonical spelling of a list of these terms, behind bytes that are there already.
+pub fn encode_list_behind(front: ByteList, parts: &TermList) -> Result<ByteList, Memory>
+    requires { length parts.now < 2 ^ 32 }
+    ensures { IfOk result (λ bytes. bytes ≡ front ++ spelled (chain parts.now nil)) }
+{
+    let mut out = front;
+    out.push(VERSION)?;
+    encode_list(&mut out, parts)?;
     Ok(out)
 }
 

@@ -6,7 +6,7 @@
 #![tactic(auto)]
 
 pub use decoding::decode;
-pub use encoding::encode;
+pub use encoding::{encode, encode_list_behind};
 pub use etf_model::EtfFault;
 pub use feed::TermFeed;
 pub use feed_model::{Fed, Feed};
