@@ -15,7 +15,8 @@ pub mod BodyWrites
 pub mod Members
 pub mod FlushBlocks
 pub mod Flush
-pub mod Packed
+pub mod WrittenBlocks
+pub mod OfObjects
 pub mod Outside
 pub mod HeaderFound
 pub mod Repair

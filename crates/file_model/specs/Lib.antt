@@ -14,6 +14,7 @@ pub mod Stands
 pub mod Images
 pub mod GateWrites
 pub mod BodyWrites
+pub mod Packing
 pub mod Free
 pub mod Flush
 -- ---- lemmas, for the crates above too

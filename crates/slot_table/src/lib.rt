@@ -1,0 +1,15 @@
+//! The slots of a table's keys, and what is known of each key's block.
+//!
+//! Stands on the definitions of `space_model` and on the types of `file_model`. `slot_of` is the slot of a hash among any
+//! number of slots, and `Entries` is a list of entries.
+#![tactic(auto)]
+
+pub use entries::Entries;
+pub use file_model::Entry;
+pub use slots::slot_of;
+pub use std::alloc::AllocError as Memory;
+
+mod entries;
+mod slots;
+#[cfg(test)]
+mod tests;
