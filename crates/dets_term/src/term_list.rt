@@ -96,7 +96,7 @@ impl TermList {
     }
 
     /// The greatest depth among the terms, 0 where there is none.
-    pub(crate) fn levels(&self) -> u32
+    pub fn levels(&self) -> u32
         ensures value { result ≡ deepest self.now }
         ensures terms { AreTerms self.now }
     {

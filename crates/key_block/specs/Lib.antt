@@ -1,0 +1,3 @@
+-- The definitions of this crate, one file for each idea.
+pub mod Refusal
+pub mod Unpacking

@@ -1,0 +1,21 @@
+//! Laws of packing and unpacking, as contracts of functions that do nothing.
+ghost use Rattle.std.specs.Prelude.{◌≡◌, ◌≢◌, ◌≤◌, ℕ, List, Result, Ok, Err, Some, length};
+ghost use Rattle.dets_term.specs.TermValue.{TermValue};
+ghost use Rattle.dets_term.specs.declared.Kind.{Kind};
+ghost use Rattle.file_model.specs.Block.{one_key};
+ghost use Rattle.file_model.specs.Packing.{payload_of, MayPack};
+ghost use Rattle.key_block.specs.declared.fault.BlockFault.{BlockFault};
+ghost use Rattle.key_block.specs.declared.fault.BlockFault.TheVariants.{Memory};
+ghost use Rattle.key_block.specs.declared.unpacking.KeyBlock.{KeyBlock};
+ghost use Rattle.key_block.specs.Unpacking.{IsUnpacking};
+
+use file_model::packing_laws::a_payload_has_its_objects;
+
+/// What was packed is unpacked: the same objects in the same order.
+pub fn what_was_packed_is_unpacked()
+    ensures { (kind : Kind) (keypos : ℕ) (objects : List TermValue) (k : TermValue) (r : Result KeyBlock BlockFault) → MayPack objects
+        → length (payload_of objects) ≤ 262136 → one_key kind keypos objects ≡ Some k → IsUnpacking kind keypos (payload_of objects) r
+        → r ≢ Err Memory → r ≡ Ok (record { objects = objects }) }
+{
+    a_payload_has_its_objects();
+}
