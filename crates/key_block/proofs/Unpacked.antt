@@ -1,5 +1,5 @@
 -- What unpacking answers to a payload that spells the list of objects which the kind allows for one key.
-use Rattle.std.proofs.Common.{◌≡◌, ◌≢◌, ℕ, true, false, List, Result, Ok, Err, Some, None, refl, sym, ap, ◌∙◌}
+use Rattle.std.proofs.Common.{◌≡◌, ◌≢◌, ℕ, true, false, List, Option, Result, Ok, Err, Some, None, refl, sym, ap, ◌∙◌}
 use Rattle.dets_term.specs.TermValue.{TermValue, nil, chain, elements}
 use Rattle.dets_term.specs.Parts.{elements-chain}
 use Rattle.dets_term.specs.declared.Kind.{Kind}
@@ -41,3 +41,30 @@ pub unpacked : (kind : Kind) (keypos : ℕ) (payload : List ℕ) (objects : List
     → term_in payload ≡ Some (chain objects nil) → one_key kind keypos objects ≡ Some k → IsUnpacking kind keypos payload r
     → r ≢ Err Memory → r ≡ Ok (block_of objects)
 unpacked kind keypos payload objects k r read key answer other = unpacked_by kind keypos payload objects k read key r answer other
+
+-- ---- any payload
+
+pub objects_found : (kind : Kind) (keypos : ℕ) (payload : List ℕ) (b : KeyBlock) → IsUnpacking kind keypos payload (Ok b) → elements_in payload ≡ b.objects
+objects_found kind keypos payload b u = ap proper_elements u.0 ∙ proper_elements-chain b.objects
+
+-- the kind allows what passes, and so nothing that was refused
+refuted : (kind : Kind) (keypos : ℕ) (payload : List ℕ) (fault : BlockFault) (k : TermValue) → fault ≢ Memory → IsUnpacking kind keypos payload (Err fault)
+    → one_key kind keypos (elements_in payload) ≡ Some k → ⊥
+refuted kind keypos payload NotTerm k other u key =
+    let none : None ≡ Some k = sym (ap (λ t. one_key kind keypos (proper_elements t)) u) ∙ key in cc none
+refuted kind keypos payload NotObjects k other u key =
+    let both : true ≡ false = sym (passing kind keypos (elements_in payload) k key).objects ∙ u.1 in cc both
+refuted kind keypos payload KeysDiffer k other u key =
+    let both : true ≡ false = sym (passing kind keypos (elements_in payload) k key).keys ∙ u.1 in cc both
+refuted kind keypos payload Order k other u key =
+    let both : true ≡ false = sym (passing kind keypos (elements_in payload) k key).order ∙ u.2 in cc both
+refuted kind keypos payload Memory k other u key = other refl
+
+none_by : (o : Option TermValue) → ((k : TermValue) → o ≡ Some k → ⊥) → o ≡ None
+none_by None not_some = refl
+none_by (Some k) not_some = absurd (not_some k refl)
+
+pub no_block : (kind : Kind) (keypos : ℕ) (payload : List ℕ) (fault : BlockFault) → fault ≢ Memory → IsUnpacking kind keypos payload (Err fault)
+    → one_key kind keypos (elements_in payload) ≡ None
+no_block kind keypos payload fault other u =
+    none_by (one_key kind keypos (elements_in payload)) (λ k key. refuted kind keypos payload fault k other u key)

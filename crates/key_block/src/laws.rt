@@ -1,8 +1,8 @@
 //! Laws of packing and unpacking, as contracts of functions that do nothing.
-ghost use Rattle.std.specs.Prelude.{◌≡◌, ◌≢◌, ◌≤◌, ℕ, List, Result, Ok, Err, Some, length};
+ghost use Rattle.std.specs.Prelude.{◌≡◌, ◌≢◌, ◌≤◌, ℕ, List, Result, Ok, Err, Some, None, length};
 ghost use Rattle.dets_term.specs.TermValue.{TermValue};
 ghost use Rattle.dets_term.specs.declared.Kind.{Kind};
-ghost use Rattle.file_model.specs.Block.{one_key};
+ghost use Rattle.file_model.specs.Block.{term_in, proper_elements, one_key};
 ghost use Rattle.file_model.specs.Packing.{payload_of, MayPack};
 ghost use Rattle.key_block.specs.declared.fault.BlockFault.{BlockFault};
 ghost use Rattle.key_block.specs.declared.fault.BlockFault.TheVariants.{Memory};
@@ -19,3 +19,12 @@ pub fn what_was_packed_is_unpacked()
 {
     a_payload_has_its_objects();
 }
+
+/// The objects are answered exactly where the payload is that of a block: where they are, they are what a file has there,
+/// and where a fault is, the kind allows nothing of it for one key.
+pub fn what_is_refused_is_no_block()
+    ensures objects { (kind : Kind) (keypos : ℕ) (payload : List ℕ) (b : KeyBlock) → IsUnpacking kind keypos payload (Ok b)
+        → proper_elements (term_in payload) ≡ b.objects }
+    ensures refused { (kind : Kind) (keypos : ℕ) (payload : List ℕ) (fault : BlockFault) → fault ≢ Memory → IsUnpacking kind keypos payload (Err fault)
+        → one_key kind keypos (proper_elements (term_in payload)) ≡ None }
+{}

@@ -28,9 +28,7 @@ fn one_object(alloc: Global) -> Result<Objects, Memory>
 fn objects_are_packed_and_unpacked(rt: HostRuntime) -> Result<(), Fail> {
     let alloc = rt.alloc();
     let objects = one_object(alloc)?;
-    let Ok(packed) = pack(alloc, Kind::Set, 1, &objects) else {
-        return Err(Fail);
-    };
+    let packed = pack(alloc, Kind::Set, 1, &objects).map_err(|_| Memory)?;
     assert_eq!(rt; packed.exp, 0);
     assert_eq!(rt; packed.count, 1);
     assert!(rt; packed.block.as_slice() == BLOCK);
