@@ -32,7 +32,7 @@ pub use mem_source::MemSource;
 pub use perfect_host::PerfectHost;
 pub use reading::{Source, SourceFailed};
 pub use restart::Pick;
-pub use runs::{Writes, write_all_and_sync, write_and_sync};
+pub use runs::{Writes, write_all, write_all_and_sync, write_and_sync};
 pub use std::alloc::AllocError as Memory;
 pub use std_source::StdSource;
 pub use writing::{DiskFailed, Host, OutFailed};

@@ -74,8 +74,9 @@ pub fn write_all_and_sync<H: Host, W: Writes>(host: &mut H, writes: &W) -> Resul
     host.sync()
 }
 
-// Makes the writes in order, with no sync.
-fn write_all<H: Host, W: Writes>(host: &mut H, writes: &W) -> Result<(), DiskFailed>
+/// Makes the writes in order, with no sync: a stop leaves what it left before, or that with the ranges of these writes
+/// torn. `DiskFailed` comes only where a call on the disk failed.
+pub fn write_all<H: Host, W: Writes>(host: &mut H, writes: &W) -> Result<(), DiskFailed>
     requires { WhereTold (H.shows host.old).file (BeginInside (W.list writes.now)) }
     ensures written { OnOk result
         ((H.shows host.new).file ≡ option_map (with_writes (W.list writes.now)) (H.shows host.old).file) }

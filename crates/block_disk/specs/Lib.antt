@@ -1,0 +1,6 @@
+-- The definitions of this crate.
+
+-- ---- cited by public contracts
+pub mod Places
+pub mod Answer
+pub mod BlockHeads

@@ -1,0 +1,20 @@
+//! The header, gates and blocks of a table's file, over any host.
+//!
+//! Stands on `host_model` for the calls on a disk and what a stop leaves, and on `file_model` for what the bytes of a file
+//! mean. Each call that writes says which bytes it puts in doubt; a header change leaves the old header or the new one at
+//! each moment. No call takes memory, and none fails but where a call on the disk did.
+#![tactic(auto)]
+
+mod block_head;
+mod fault;
+mod header_bytes;
+mod places;
+mod reading;
+mod step;
+mod units;
+
+pub use block_head::head_bytes;
+pub use fault::HeadFault;
+pub use file_model::{FileState, Head, Located, Unreadable};
+pub use reading::read_header;
+pub use units::{close_gate, open_gate, read_gates, read_head, read_payload, write_body};
