@@ -74,7 +74,7 @@ by_gates page size true b ea eb = with_other page size false b (head_in (body_in
 by_gates page size false true ea eb = with_other page size true false (head_in (body_in page true)) ea
 by_gates page size false false ea eb = refl
 
-head_by_page : (image : List ℕ) → page_size ≤ length image → head_of image ≡ head_of_page (page_of image)
+pub head_by_page : (image : List ℕ) → page_size ≤ length image → head_of image ≡ head_of_page (page_of image)
 unfolding head_of
 head_by_page image l = cond-false (nat_lt (length image) page_size) (Err NotDets) (head_of_page (page_of image)) (le-ltb _ _ l)
 

@@ -4,3 +4,4 @@
 pub mod Places
 pub mod Answer
 pub mod BlockHeads
+pub mod Copies

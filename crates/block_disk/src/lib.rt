@@ -6,6 +6,8 @@
 #![tactic(auto)]
 
 mod block_head;
+mod change;
+mod copies;
 mod fault;
 mod header_bytes;
 mod places;
@@ -14,6 +16,7 @@ mod step;
 mod units;
 
 pub use block_head::head_bytes;
+pub use change::change_header;
 pub use fault::HeadFault;
 pub use file_model::{FileState, Head, Located, Unreadable};
 pub use reading::read_header;

@@ -11,7 +11,7 @@ use Rattle.block_disk.proofs.Pages.{located_long, located_short, found_by, found
 use Rattle.block_disk.proofs.reading.read_header.Goals as goal
 
 err_is : (r : Result Located HeadFault) (e : HeadFault) → IsErr r → IsErrAnd r (λ x. x ≡ e) → r ≡ Err e
-err_is (Ok l) e is and = absurd is
+err_is (Ok l) e is and = absurd (cc is)
 err_is (Err x) e is and = ap (λ (y : HeadFault). Err y) and
 
 pub returns-then-len-lt-PAGE_BYTES-clause-told : goal.returns-then-len-lt-PAGE_BYTES-clause-told
