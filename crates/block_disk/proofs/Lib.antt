@@ -5,3 +5,4 @@ pub mod Pages
 pub mod Telling
 pub mod CopiesTorn
 pub mod Current
+pub mod Switching

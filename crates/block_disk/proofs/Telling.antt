@@ -3,7 +3,7 @@ use Rattle.std.proofs.Common.{◌≡◌, ◌≤◌, ◌∙◌, ℕ, List, [], �
 use Rattle.host_model.specs.Disk.{range, DiffersIn, IsImage, written_at, WhereTold, Changes}
 use Rattle.host_model.specs.Host.{Shown}
 use Rattle.host_model.specs.Images.{LeavesImages, images_weaker}
-use Rattle.host_model.specs.Tearing.{changes_by}
+use Rattle.host_model.specs.Tearing.{changes_by, told_before}
 use Rattle.file_model.specs.Layout.{page_size}
 
 -- a write of so many bytes at this place may make R of a file
@@ -37,3 +37,8 @@ pub file_written : (at place : ℕ) (bytes : List ℕ) (R : List ℕ → List �
     → new ≡ option_map (written_at at bytes) old → Changes R old new
 file_written at place bytes R old new same makes page e =
     changes_by R (written_at place bytes) old new (λ x o. makes x (page x o)) (e ∙ ap (λ a. option_map (written_at a bytes) old) same)
+
+-- what is known of a file after a change that tells it
+pub known_after : (P : List ℕ → List ℕ → Type 0) (K : List ℕ → Type 0) (old new : Option (List ℕ)) → ((x y : List ℕ) → P x y → K y)
+    → Changes P old new → WhereTold new K
+known_after P K old new so c y told = let t = told_before P old new y c told in so t.0 y t.2
