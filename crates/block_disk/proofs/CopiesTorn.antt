@@ -14,7 +14,7 @@ use Rattle.block_disk.proofs.Telling.{MayMake}
 
 -- ---- a range in the page
 
-in_page : (at n : ℕ) → at + n ≤ page_size → IsWithin (range at n) the_page
+pub in_page : (at n : ℕ) → at + n ≤ page_size → IsWithin (range at n) the_page
 in_page at n l = record {
   outside = λ k e. ⊎_elim
       (λ below. absurd (omega arith))

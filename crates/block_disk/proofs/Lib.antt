@@ -6,3 +6,6 @@ pub mod Telling
 pub mod CopiesTorn
 pub mod Current
 pub mod Switching
+pub mod Wider
+pub mod Zeroing
+pub mod Made

@@ -5,3 +5,4 @@ pub mod Places
 pub mod Answer
 pub mod BlockHeads
 pub mod Copies
+pub mod Zeroed
