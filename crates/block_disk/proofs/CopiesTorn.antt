@@ -2,13 +2,13 @@
 use Rattle.std.proofs.Common.{◌≡◌, ◌≤◌, ◌<◌, ◌+◌, ◌-◌, ◌∙◌, ◌==◌, ℕ, Bool, true, false, cond, List, [], ◌∷◌, length, slice_range, refl, sym, ap, subst, arith, get_or, inl, inr, ⊎_elim}
 use Rattle.std.specs.Prelude.{not, ◌⊎◌}
 use Rattle.std.proofs.lemmas.Bool.{or_parts}
-use Rattle.host_model.specs.Disk.{Range, range, is_in, in_doubt, DiffersIn, written_at}
+use Rattle.host_model.specs.Disk.{range, is_in, DiffersIn, written_at}
 use Rattle.host_model.specs.Torn.{alone, is_in-below, is_in-above, is_in-false, outside_ranges, DiffersIn-refl, DiffersIn-written, get_or-written_in}
 use Rattle.host_model.specs.Tearing.{IsWithin, absorbed}
 use Rattle.host_model.specs.WritesLaws.{slice_range-written}
 use Rattle.file_model.specs.Layout.{page_size, copy_at, body_at, body_size, open_byte, closed_byte, is_open_at}
 use Rattle.block_disk.specs.Places.{the_page}
-use Rattle.block_disk.specs.Copies.{is_open_copy, copy_body, SameCopy, TearsGate, WritesGate, TearsBody, WritesBody}
+use Rattle.block_disk.specs.Copies.{TearsGate, WritesGate, TearsBody, WritesBody}
 use Rattle.block_disk.proofs.Slices.{same_index}
 use Rattle.block_disk.proofs.Telling.{MayMake}
 
@@ -53,12 +53,22 @@ record Apart (second : Bool) : Type 0 where
 
 apart_copies : (second : Bool) → Apart second
 apart_copies true = record {
-  gate_in_page = omega arith; body_in_page = omega arith; own = omega arith;
-  gates = inl (omega arith); gate_body = inl (omega arith); body_gate = inl (omega arith); bodies = inl (omega arith);
+  gate_in_page = omega arith;
+  body_in_page = omega arith;
+  own = omega arith;
+  gates = inl (omega arith);
+  gate_body = inl (omega arith);
+  body_gate = inl (omega arith);
+  bodies = inl (omega arith);
 }
 apart_copies false = record {
-  gate_in_page = omega arith; body_in_page = omega arith; own = omega arith;
-  gates = inr (omega arith); gate_body = inr (omega arith); body_gate = inr (omega arith); bodies = inr (omega arith);
+  gate_in_page = omega arith;
+  body_in_page = omega arith;
+  own = omega arith;
+  gates = inr (omega arith);
+  gate_body = inr (omega arith);
+  body_gate = inr (omega arith);
+  bodies = inr (omega arith);
 }
 
 -- ---- torn

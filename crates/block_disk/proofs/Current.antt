@@ -1,8 +1,8 @@
 -- Which header a file has, by the gates and bodies of its two copies.
-use Rattle.std.proofs.Common.{◌≡◌, ◌≤◌, ◌<◌, ◌∙◌, ℕ, Bool, true, false, cond, List, length, Option, Some, None, Result, Ok, Err, refl, sym, ap, subst, arith, inl, inr, ⊎_elim}
-use Rattle.std.specs.Prelude.{min, not, ◌⊎◌, max}
+use Rattle.std.proofs.Common.{◌≡◌, ◌≤◌, ◌∙◌, ℕ, Bool, true, false, cond, List, length, Some, None, Result, Ok, Err, refl, sym, ap, subst, arith, inl, inr, ⊎_elim}
+use Rattle.std.specs.Prelude.{min, not, ◌⊎◌}
 use Rattle.std.proofs.lemmas.Bool.{cases_lt, or_parts}
-use Rattle.host_model.specs.Disk.{DiffersIn, furthest, range, is_in}
+use Rattle.host_model.specs.Disk.{DiffersIn, range, is_in}
 use Rattle.host_model.specs.Tearing.{IsWithin, absorbed}
 use Rattle.file_model.specs.declared.head.Head.{Head}
 use Rattle.file_model.specs.declared.head.Located.{Located}
@@ -11,7 +11,7 @@ use Rattle.file_model.specs.declared.head.Unreadable.TheVariants.{NotDets}
 use Rattle.file_model.specs.Layout.{page_size, copy_at, is_open_at, page_of, segments_within}
 use Rattle.file_model.specs.Header.{body_in, head_in, head_of_copy, head_of, located}
 use Rattle.block_disk.specs.Places.{per_segment, the_page}
-use Rattle.block_disk.specs.Answer.{copies_by, copies_in}
+use Rattle.block_disk.specs.Answer.{copies_by}
 use Rattle.block_disk.specs.Copies.{is_open_copy, copy_body, Stands}
 use Rattle.block_disk.proofs.Pages.{gate_in_page, body_in_page, head_by_page, found_in, found_by, located_long, located_short}
 

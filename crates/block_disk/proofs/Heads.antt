@@ -1,12 +1,12 @@
 -- The head of a block, in eight bytes.
-use Rattle.std.proofs.Common.{◌≡◌, ◌≤◌, ◌<◌, ◌+◌, ◌-◌, ◌*◌, ◌^◌, ◌&&◌, ◌==◌, nat_le, ◌∙◌, ℕ, Bool, true, false, List, [], ◌∷◌, ◌++◌, length, drop, slice_index, Option, Some, None, refl, sym, ap, arith}
+use Rattle.std.proofs.Common.{◌≡◌, ◌≤◌, ◌<◌, ◌-◌, ◌^◌, ◌&&◌, ◌==◌, nat_le, ◌∙◌, ℕ, true, false, List, [], ◌∷◌, ◌++◌, length, drop, slice_index, Some, refl, ap, arith}
 use Rattle.std.proofs.Math.Pow.{pow_mono}
 use Rattle.std.proofs.lemmas.Bool.{le-leb, lt-leb}
 use Rattle.byteorder.specs.Endian.{big_number, big_bytes}
 use Rattle.byteorder.specs.Numbers.{big_number-reads_back}
 use Rattle.space_model.specs.Sizes.{head_size}
 use Rattle.file_model.specs.Layout.{run_size}
-use Rattle.file_model.specs.Block.{BlockHead, is_well_formed, if_well_formed, block_head}
+use Rattle.file_model.specs.Block.{is_well_formed, if_well_formed, block_head}
 use Rattle.file_model.specs.BodyWrites.{head_bytes}
 use Rattle.block_disk.specs.Places.{per_segment}
 

@@ -1,5 +1,5 @@
 -- The file that is made.
-use Rattle.std.proofs.Common.{◌≡◌, ◌≤◌, ◌<◌, ◌+◌, ◌-◌, ◌∙◌, ◌==◌, ℕ, Bool, true, false, List, [], ◌∷◌, length, slice_range, Option, Some, None, option_map, Result, Ok, get_or, refl, ap, arith, inl}
+use Rattle.std.proofs.Common.{◌≡◌, ◌-◌, ◌∙◌, ◌==◌, ℕ, true, false, List, [], ◌∷◌, length, Option, Some, None, option_map, Result, Ok, get_or, refl, ap, arith, inl}
 use Rattle.std.specs.Prelude.{min}
 use Rattle.std.proofs.lemmas.List.{ext_get_or, get_or-replicate}
 use Rattle.host_model.specs.Disk.{written_at, WhereTold}
@@ -7,13 +7,13 @@ use Rattle.host_model.specs.Torn.{length-written_at, get_or-written_in}
 use Rattle.file_model.specs.declared.head.Head.{Head}
 use Rattle.file_model.specs.declared.head.Located.{Located}
 use Rattle.file_model.specs.declared.head.Unreadable.{Unreadable}
-use Rattle.file_model.specs.Layout.{page_size, copy_at, body_size, open_byte, is_open_at, segments_within}
+use Rattle.file_model.specs.Layout.{page_size, open_byte, segments_within}
 use Rattle.file_model.specs.Header.{body_of, head_in, located}
 use Rattle.block_disk.specs.Places.{per_segment}
 use Rattle.block_disk.specs.Copies.{is_open_copy, Stands}
 use Rattle.block_disk.specs.Zeroed.{zeros, made_page}
 use Rattle.block_disk.proofs.CopiesTorn.{gate_written, body_written}
-use Rattle.block_disk.proofs.Current.{the_located, located_current}
+use Rattle.block_disk.proofs.Current.{located_current}
 use Rattle.block_disk.proofs.Zeroing.{length-zeros}
 
 pub blank_size : (h : Head) → length (written_at 16 (body_of h) (zeros page_size)) ≡ page_size

@@ -1,5 +1,5 @@
 -- What a write tells of the file and of its images, where a relation holds between a file and what the write may make of it.
-use Rattle.std.proofs.Common.{◌≡◌, ◌≤◌, ◌∙◌, ℕ, List, [], ◌∷◌, length, Option, Some, option_map, sym, ap, subst}
+use Rattle.std.proofs.Common.{◌≡◌, ◌≤◌, ◌∙◌, ℕ, List, [], ◌∷◌, length, Option, option_map, ap, subst}
 use Rattle.host_model.specs.Disk.{range, DiffersIn, IsImage, written_at, WhereTold, Changes}
 use Rattle.host_model.specs.Host.{Shown}
 use Rattle.host_model.specs.Images.{LeavesImages, images_weaker}

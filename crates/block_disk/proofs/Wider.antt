@@ -1,5 +1,5 @@
 -- Torn writes: in wider ranges, and one run after another.
-use Rattle.std.proofs.Common.{◌≡◌, ◌≤◌, ◌∙◌, ℕ, List, [], ◌∷◌, Option, Some, arith}
+use Rattle.std.proofs.Common.{◌∙◌, ℕ, List, [], ◌∷◌, Option, arith}
 use Rattle.host_model.specs.Disk.{Range, DiffersIn, Changes}
 use Rattle.host_model.specs.Host.{Left, Shown, TearsIn, Reached}
 use Rattle.host_model.specs.Leaves.{leaves_then, leaves_weaker}

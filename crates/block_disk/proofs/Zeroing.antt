@@ -1,14 +1,14 @@
 -- Pages of zeros, written one behind the other.
-use Rattle.std.proofs.Common.{◌≡◌, ◌≤◌, ◌<◌, ◌+◌, ◌-◌, ◌*◌, ◌∙◌, ℕ, zero, suc, List, [], ◌∷◌, ◌++◌, length, take, drop, replicate, get_or, slice_get}
-use Rattle.std.proofs.Common.{Option, Some, None, option_map, Bool, true, false, refl, sym, ap, subst, arith, inl, inr, ⊎_elim, length-append}
+use Rattle.std.proofs.Common.{◌≡◌, ◌≤◌, ◌<◌, ◌+◌, ◌-◌, ◌*◌, ◌∙◌, ℕ, zero, suc, List, [], ◌∷◌, ◌++◌, length, take, drop, get_or, slice_get}
+use Rattle.std.proofs.Common.{Option, Some, None, option_map, false, refl, sym, ap, arith, inl, inr, ⊎_elim, length-append}
 use Rattle.std.specs.Prelude.{max, ◌⊎◌}
 use Rattle.std.proofs.Math.Nat.{mul-suc}
 use Rattle.std.proofs.lemmas.Bool.{cases_lt, or_parts}
 use Rattle.std.proofs.lemmas.Grind.{common_steps}
 use Rattle.std.proofs.lemmas.List.{ext_get_or, append-nil, take-append-drop, length-replicate, replicate-append-replicate}
-use Rattle.host_model.specs.Disk.{Range, range, in_doubt, furthest, DiffersIn, written_at, WhereTold}
+use Rattle.host_model.specs.Disk.{range, in_doubt, furthest, DiffersIn, written_at, WhereTold}
 use Rattle.host_model.specs.Torn.{is_in-below, is_in-above, is_in-false, or_falses, length-written_at, get_or-written_below, get_or-written_in, get_or-written_above}
-use Rattle.host_model.specs.Writes.{Write, ranges_of, with_writes, BeginInside}
+use Rattle.host_model.specs.Writes.{ranges_of, with_writes, BeginInside}
 use Rattle.block_disk.specs.Zeroed.{zeros, zero_pages}
 
 pub length-zeros : (n : ℕ) → length (zeros n) ≡ n

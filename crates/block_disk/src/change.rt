@@ -100,7 +100,11 @@ fn change_copies<H: Host>(host: &mut H, place: &Located, next: &Head) -> Result<
 /// Changes the header of a file to `next`, from a settled host. `place` is what `read_header` gives for the file, and is
 /// what it gives for the new one then; after `DiskFailed` it says no more. At each moment the header is the old one or
 /// `next`. `DiskFailed` comes only where a call on the disk failed.
-pub fn change_header<H: Host>(host: &mut H, place: &mut Located, next: Head) -> Result<(), DiskFailed>
+pub fn change_header<H: Host>(
+    host: &mut H,
+    place: &mut Located,
+    next: Head,
+) -> Result<(), DiskFailed>
     requires settled { Settled (H.shows host.old) }
     requires allowed { is_allowed next ≡ true }
     requires place { WhereTold (H.shows host.old).file (λ f. located f ≡ Ok place.old) }
@@ -109,6 +113,7 @@ pub fn change_header<H: Host>(host: &mut H, place: &mut Located, next: Head) -> 
     ensures file { Changes (HasEither place.old.head next) (H.shows host.old).file (H.shows host.new).file }
     ensures changed { OnOk result (Changes (HasLocated place.new) (H.shows host.old).file (H.shows host.new).file) }
     ensures head { OnOk result (place.new.head ≡ next) }
+    ensures err { OnErr result (place.new ≡ place.old) }
     ensures settled { OnOk result (Settled (H.shows host.new)) }
     ensures only_disk { OnlyDisk (H.shows host.old) (H.shows host.new) }
     ensures clock { (H.shows host.new).clock ≤ (H.shows host.old).clock + 8 }

@@ -22,7 +22,11 @@ fn gate_byte(is_open: bool) -> u8
 }
 
 // Opens or closes the gate of a copy.
-pub(crate) fn write_gate<H: Host>(host: &mut H, second: bool, is_open: bool) -> Result<(), DiskFailed>
+pub(crate) fn write_gate<H: Host>(
+    host: &mut H,
+    second: bool,
+    is_open: bool,
+) -> Result<(), DiskFailed>
     requires settled { Settled (H.shows host.old) }
     requires page { WhereTold (H.shows host.old).file (λ f. page_size ≤ length f) }
     ensures any_moment { WhereTold (H.shows host.old).file

@@ -9,7 +9,9 @@ use file_model::{FileState, Head, Unreadable};
 use term_model::Kind;
 
 const MAGIC: [u8; 4] = [68, 84, 66, 76];
+
 const THE_VERSION: u8 = 1;
+
 const NO_UNIT: u32 = 4_294_967_295;
 
 fn state_number(state: FileState) -> u8
@@ -55,7 +57,11 @@ fn kind_of(number: u8) -> Option<Kind>
 fn index_of(number: u32) -> Option<u32>
     ensures { result ≡ index_of number }
 {
-    if number == NO_UNIT { None } else { Some(number) }
+    if number == NO_UNIT {
+        None
+    } else {
+        Some(number)
+    }
 }
 
 fn index_number(index: Option<u32>) -> u32

@@ -5,10 +5,13 @@ ghost use Rattle.block_disk.specs.Places.{per_segment};
 
 // An open gate and a closed one.
 pub(crate) const OPEN: u8 = 165;
+
 pub(crate) const CLOSED: u8 = 0;
 
 pub(crate) const PAGE_BYTES: u64 = 4096;
+
 const SEGMENT_BYTES: u64 = 266_240;
+
 const UNITS: u32 = 4096;
 
 pub(crate) fn copy_at(second: bool) -> u64

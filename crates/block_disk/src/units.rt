@@ -57,7 +57,11 @@ pub fn write_body<H: Host>(host: &mut H, unit: u32, block: &[u8]) -> Result<(), 
 }
 
 /// Reads the gates of a segment that is whole in the file, one byte each.
-pub fn read_gates<H: Host>(host: &mut H, segment: u32, gates: &mut [u8; 4096]) -> Result<(), DiskFailed>
+pub fn read_gates<H: Host>(
+    host: &mut H,
+    segment: u32,
+    gates: &mut [u8; 4096],
+) -> Result<(), DiskFailed>
     requires { WhereTold (H.shows host.old).file (λ f. segment_at per_segment (segment + 1) ≤ length f) }
     ensures given { OnOk result (WhereTold (H.shows host.old).file (λ f. gates.new
         ≡ slice_range f (segment_at per_segment segment) (segment_at per_segment segment + per_segment))) }

@@ -1,4 +1,4 @@
-use Rattle.std.proofs.Common.{nat_le, sym, ap, ◌∙◌, arith}
+use Rattle.std.proofs.Common.{nat_le, sym, ap, ◌∙◌}
 use Rattle.std.proofs.lemmas.Bool.{lt-leb}
 use Rattle.block_disk.proofs.Heads.{judged_by_length, too_large}
 use Rattle.block_disk.proofs.block_head.is_well_formed.Goals as goal

@@ -1,10 +1,9 @@
-use Rattle.std.proofs.Common.{◌≡◌, ◌∙◌, sym, ap, length, Result, Ok}
+use Rattle.std.proofs.Common.{◌∙◌, sym, ap, Result, Ok}
 use Rattle.std.specs.Prelude.{not, min, false}
 use Rattle.file_model.specs.declared.head.Located.{Located}
 use Rattle.file_model.specs.declared.head.Unreadable.{Unreadable}
 use Rattle.file_model.specs.Layout.{segments_within}
 use Rattle.block_disk.specs.Places.{per_segment}
-use Rattle.block_disk.specs.Copies.{HasLocated}
 use Rattle.block_disk.proofs.Current.{stands_located, located_current, length_same}
 use Rattle.block_disk.proofs.Switching.{header_here, either_of}
 use Rattle.block_disk.proofs.change.change_header.Goals as goal
@@ -14,8 +13,11 @@ returns-in_err-len-clause-file g c =
     let p = c.args.place.now in
     let same = c.len.ensures.rests.file in
     record {
-      told = λ x e. (x, same ∙ e,
-          either_of p.head c.args.next x x (header_here p.second p.other_gate p.head x (stands_located x p (c.requires.place x e))));
+      told = λ x e. (
+        x,
+        same ∙ e,
+        either_of p.head c.args.next x x (header_here p.second p.other_gate p.head x (stands_located x p (c.requires.place x e))),
+      );
       untold = λ e. same ∙ e;
     }
 
@@ -35,11 +37,14 @@ returns-clause-changed g c =
           let stands = stands_located x p (c.requires.place x e) in
           let long = length_same x t.0 stands.page t.2.outside in
           let size = c.in_ok-len.ensures.length x e in
-          let whole = c.whole_segments.ensures ∙ ap (λ n. min next.segments (segments_within per_segment n)) (size ∙ sym long) in
-          (t.0, t.1, record {
-            found = located_current (not p.second) next t.0 t.2.stands
-                ∙ sym (ap (λ w. made (record { head = next; second = not p.second; other_gate = false; whole = w })) whole);
-            outside = t.2.outside;
-          });
+          let whole = c.whole_segments.ensures ∙ ap (λ n. min next.segments (segments_within per_segment n)) (size ∙ sym long) in (
+            t.0,
+            t.1,
+            record {
+              found = located_current (not p.second) next t.0 t.2.stands
+                  ∙ sym (ap (λ w. made (record { head = next; second = not p.second; other_gate = false; whole = w })) whole);
+              outside = t.2.outside;
+            },
+          );
       untold = λ e. changed.untold (same ∙ e);
     }

@@ -1,9 +1,8 @@
-use Rattle.std.proofs.Common.{◌≡◌, ◌+◌, Result, Ok, Err, Some, inr, ap, sym, ◌∙◌, arith, length}
+use Rattle.std.proofs.Common.{◌≡◌, Result, Ok, Err, inr, ap, sym, ◌∙◌, arith, length}
 use Rattle.std.specs.Prelude.{min}
 use Rattle.std.specs.Result.{IsErr, IsErrAnd}
 use Rattle.file_model.specs.declared.head.Located.{Located}
 use Rattle.file_model.specs.Layout.{page_of, segments_within}
-use Rattle.file_model.specs.Header.{head_in, body_in, located}
 use Rattle.block_disk.specs.declared.fault.HeadFault.{HeadFault}
 use Rattle.block_disk.specs.Places.{per_segment}
 use Rattle.block_disk.specs.Answer.{fault_of, answer_for}
