@@ -19,8 +19,11 @@ abbrev pub the_version : ℕ
 the_version = 1
 
 -- the units of a segment; every file has the same number
+abbrev pub segment_units : ℕ
+segment_units = 4096
+
 abbrev pub units_per_segment : Head → ℕ
-units_per_segment h = 4096
+units_per_segment h = segment_units
 
 abbrev pub most_segments : ℕ
 most_segments = 8000
