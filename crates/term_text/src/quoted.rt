@@ -32,6 +32,13 @@ impl Quoted {
         }
     }
 
+    /// Takes the token out.
+    pub(crate) fn take(&mut self, alloc: Global) -> Quoted
+        ensures { result ≡ self.old }
+    {
+        mem::replace(self, Quoted::new(alloc, 0, Quotes::Atom))
+    }
+
     /// Reads a byte that stands at an offset, and answers whether it is the closing quote.
     pub(crate) fn read(&mut self, nest: &Nest, at: u64, byte: u8) -> Result<bool, TextFault>
         requires fits { LexemeFits (quoted_of self.old) }
@@ -42,6 +49,9 @@ impl Quoted {
             → length self.new.characters.text ≤ length self.old.characters.text + pending (partial_of self.old.partial) }
         ensures same { (self.new.start ≡ self.old.start) × (self.new.quotes ≡ self.old.quotes) }
     {
+        if matches!(self.partial, Partial::Nothing) {
+            return self.begin_character(nest, at, byte);
+        }
         match mem::replace(&mut self.partial, Partial::Nothing) {
             Partial::Nothing => self.begin_character(nest, at, byte),
             Partial::Cut(cut) => self.go_on(nest, at, cut, byte),

@@ -201,20 +201,6 @@ impl Reader {
         }
     }
 
-    /// Reads one more digit of a number.
-    fn digit(&mut self, start: u64, number: Integer, byte: u8) -> Result<(), TextFault>
-        requires { (48 ≤ byte) × (byte < 58) }
-        ensures ok { (at : ℕ) → OnOk result (led (nest_of self.old.nest) at byte (in_number start number.is_negative number.value) ≡ Ok (state_of self.new)) }
-        ensures syntax { (at o : ℕ) (why : TextWhy) → result ≡ Err (Syntax o why)
-            → led (nest_of self.old.nest) at byte (in_number start number.is_negative number.value) ≡ Err (o, why) }
-        ensures counts { (self.new.read ≡ self.old.read) × (self.new.blank ≡ self.old.blank) }
-    {
-        match number.with_digit(byte) {
-            Some(next) => self.keep(Lexeme::Number(start, next)),
-            None => Err(TextFault::Syntax(start, TextWhy::IntegerRange)),
-        }
-    }
-
     /// Ends a number, and reads the byte behind it.
     fn end_number(
         &mut self,
@@ -281,21 +267,6 @@ impl Reader {
         }
     }
 
-    /// Reads a byte of a token in quotes.
-    fn quoted(&mut self, alloc: Global, quoted: Quoted, at: u64, byte: u8) -> Result<(), TextFault>
-        requires fits { IsFitState (2 ^ 24 - 1) (record { nest = nest_of self.old.nest; lexeme = quoted_of quoted }) }
-        ensures ok { OnOk result (led (nest_of self.old.nest) at byte (quoted_of quoted) ≡ Ok (state_of self.new)) }
-        ensures syntax { (o : ℕ) (why : TextWhy) → result ≡ Err (Syntax o why) → led (nest_of self.old.nest) at byte (quoted_of quoted) ≡ Err (o, why) }
-        ensures counts { (self.new.read ≡ self.old.read) × (self.new.blank ≡ self.old.blank) }
-    {
-        let mut quoted = quoted;
-        match quoted.read(&self.nest, at, byte) {
-            Ok(false) => self.keep(Lexeme::InQuotes(quoted)),
-            Ok(true) => self.end_quoted(alloc, quoted),
-            Err(fault) => Err(fault),
-        }
-    }
-
     /// Reads a byte that stands at an offset.
     fn step(&mut self, alloc: Global, at: u64, byte: u8) -> Result<(), TextFault>
         requires fits { IsFitState (2 ^ 24 - 1) (state_of self.old) }
@@ -303,43 +274,46 @@ impl Reader {
         ensures syntax { (o : ℕ) (why : TextWhy) → result ≡ Err (Syntax o why) → step (state_of self.old) at byte ≡ Err (o, why) }
         ensures counts { (self.new.read ≡ self.old.read) × (self.new.blank ≡ self.old.blank) }
     {
-        match mem::replace(&mut self.lexeme, Lexeme::Between) {
+        match &mut self.lexeme {
             Lexeme::Between => self.begin(alloc, at, byte),
-            Lexeme::Comment(cut) => self.comment(at, cut, byte),
-            Lexeme::First(start, mark) => self.second(alloc, start, mark, byte),
-            Lexeme::Minus(start) => self.minus(start, byte),
+            Lexeme::Comment(cut) => {
+                let cut = mem::replace(cut, Cut::new());
+                self.comment(at, cut, byte)
+            }
+            Lexeme::First(start, mark) => {
+                let (start, mark) = (*start, *mark);
+                self.second(alloc, start, mark, byte)
+            }
+            Lexeme::Minus(start) => {
+                let start = *start;
+                self.minus(start, byte)
+            }
             Lexeme::Number(start, number) => {
                 if byte.is_ascii_digit() {
-                    self.digit(start, number, byte)
+                    grow_number(*start, number, byte)
                 } else {
+                    let (start, number) = (*start, *number);
                     self.end_number(alloc, start, number, at, byte)
                 }
             }
             Lexeme::Name(start, name) => {
                 if is_name_byte(byte) {
-                    self.letter(start, name, byte)
+                    grow_name(*start, name, byte)
                 } else {
+                    let start = *start;
+                    let name = mem::replace(name, Characters::new(alloc));
                     self.end_name(alloc, start, name.text, at, byte)
                 }
             }
-            Lexeme::InQuotes(quoted) => self.quoted(alloc, quoted, at, byte),
+            Lexeme::InQuotes(quoted) => match quoted.read(&self.nest, at, byte) {
+                Ok(false) => Ok(()),
+                Ok(true) => {
+                    let quoted = quoted.take(alloc);
+                    self.end_quoted(alloc, quoted)
+                }
+                Err(fault) => Err(fault),
+            },
         }
-    }
-
-    /// Reads one more character of an atom without quotes.
-    fn letter(&mut self, start: u64, name: Characters, byte: u8) -> Result<(), TextFault>
-        requires { is_name_character byte ≡ true }
-        ensures ok { (at : ℕ) → OnOk result (led (nest_of self.old.nest) at byte (in_name start name.text) ≡ Ok (state_of self.new)) }
-        ensures syntax { (at o : ℕ) (why : TextWhy) → result ≡ Err (Syntax o why)
-            → led (nest_of self.old.nest) at byte (in_name start name.text) ≡ Err (o, why) }
-        ensures counts { (self.new.read ≡ self.old.read) × (self.new.blank ≡ self.old.blank) }
-    {
-        if name.count >= MAX_CHARACTERS {
-            return Err(TextFault::Syntax(start, TextWhy::BadToken));
-        }
-        let mut name = name;
-        name.push(char::from(byte))?;
-        self.keep(Lexeme::Name(start, name))
     }
 
     /// Whether no token is begun.
@@ -485,6 +459,37 @@ fn last_comment(end: u64, cut: &Cut) -> Option<(u64, TextWhy)>
     } else {
         Some((end.saturating_sub(cut.len() as u64), TextWhy::BadUtf8))
     }
+}
+
+/// One more digit of a number that began at an offset.
+fn grow_number(start: u64, number: &mut Integer, byte: u8) -> Result<(), TextFault>
+    requires { (48 ≤ byte) × (byte < 58) }
+    ensures ok { (n : OpenTerms) (at : ℕ) → OnOk result (led n at byte (in_number start number.old.is_negative number.old.value)
+        ≡ in_lexeme n (in_number start number.new.is_negative number.new.value)) }
+    ensures syntax { (n : OpenTerms) (at o : ℕ) (why : TextWhy) → result ≡ Err (Syntax o why)
+        → led n at byte (in_number start number.old.is_negative number.old.value) ≡ Err (o, why) }
+{
+    match number.with_digit(byte) {
+        Some(next) => {
+            *number = next;
+            Ok(())
+        }
+        None => Err(TextFault::Syntax(start, TextWhy::IntegerRange)),
+    }
+}
+
+/// One more character of an atom without quotes that began at an offset.
+fn grow_name(start: u64, name: &mut Characters, byte: u8) -> Result<(), TextFault>
+    requires { is_name_character byte ≡ true }
+    ensures ok { (n : OpenTerms) (at : ℕ) → OnOk result (led n at byte (in_name start name.old.text) ≡ in_lexeme n (in_name start name.new.text)) }
+    ensures syntax { (n : OpenTerms) (at o : ℕ) (why : TextWhy) → result ≡ Err (Syntax o why)
+        → led n at byte (in_name start name.old.text) ≡ Err (o, why) }
+{
+    if name.count >= MAX_CHARACTERS {
+        return Err(TextFault::Syntax(start, TextWhy::BadToken));
+    }
+    name.push(char::from(byte))?;
+    Ok(())
 }
 
 /// White space.
