@@ -3,7 +3,7 @@ ghost use Rattle.std.specs.Prelude.{◌≡◌, ◌<◌, ◌≤◌, ◌+◌, ◌*
 ghost use Rattle.std.specs.Char.{is_ascii_hexdigit};
 ghost use Rattle.text_model.specs.Characters.{escape_of, digit_value, is_octal};
 ghost use Rattle.text_model.specs.Reader.{may_have, quotes_led, push, in_character, in_quotes, sequence_led, begin_character, begin_escape};
-ghost use Rattle.text_model.specs.Reader.{octal_led, braced_led, sequence, nothing, backslash, hexadecimal, cut, octal, half, braced};
+ghost use Rattle.text_model.specs.Reader.{in_lexeme, quote_of, octal_led, braced_led, sequence, nothing, backslash, hexadecimal, cut, octal, half, braced};
 ghost use Rattle.text_model.specs.declared.fault.TextWhy.{TextWhy};
 ghost use Rattle.text_nest.specs.NestView.{nest_of};
 ghost use Rattle.term_text.specs.LexemeView.{partial_of, quotes_of, quoted_of};
@@ -11,6 +11,7 @@ ghost use Rattle.term_text.specs.StateFits.{LexemeFits, pending};
 ghost use Rattle.term_text.specs.Quoting.{Reads};
 ghost use Rattle.term_text.specs.declared.lexeme.Partial.TheVariants.{Nothing};
 
+use crate::Memory;
 use crate::digits::Digits;
 use crate::lexeme::{Cut, Partial, Quoted, Quotes};
 use crate::sequence::{Bytes, sequence};
@@ -60,6 +61,36 @@ impl Quoted {
             Partial::Hexadecimal => self.hexadecimal(nest, byte),
             Partial::Half(value) => self.half(nest, value, byte),
             Partial::Braced(digits) => self.braced(nest, digits, byte),
+        }
+    }
+
+    /// Goes on with a byte that is a character by itself: `false` changes nothing. After `Memory` nothing is said.
+    pub(crate) fn goes_on(&mut self, nest: &Nest, byte: u8) -> Result<bool, Memory>
+        requires few { self.old.characters.count < 2 ^ 62 }
+        ensures on { (at : ℕ) → result ≡ Ok true → quotes_led (nest_of nest.now) self.old.start at (quotes_of self.old.quotes) self.old.characters.text
+            (partial_of self.old.partial) byte ≡ in_lexeme (nest_of nest.now) (quoted_of self.new) }
+        ensures off { result ≡ Ok false → self.new ≡ self.old }
+    {
+        if byte < 128
+            && byte != b'\\'
+            && byte != self.quote()
+            && matches!(self.partial, Partial::Nothing)
+            && self.may_have(nest).is_none()
+        {
+            self.characters.push(char::from(byte))?;
+            Ok(true)
+        } else {
+            Ok(false)
+        }
+    }
+
+    /// The quote that closes.
+    fn quote(&self) -> u8
+        ensures { result ≡ quote_of (quotes_of self.now.quotes) }
+    {
+        match self.quotes {
+            Quotes::Atom => b'\'',
+            Quotes::String => b'"',
         }
     }
 

@@ -24,6 +24,7 @@ ghost use Rattle.term_text.specs.StateFits.{IsFitState, LexemeFits};
 ghost use Rattle.text_nest.specs.Strays.{is_stopped};
 ghost use Rattle.term_text.specs.ReaderView.{state_of, progress_of, IsReady};
 
+use crate::Memory;
 use crate::lexeme::{Cut, Lexeme, Quoted, Quotes};
 use crate::sequence::{Bytes, sequence};
 use dets_term::{Term, Text};
@@ -267,8 +268,55 @@ impl Reader {
         }
     }
 
+    /// Goes on with a number, a name or a character in quotes where a byte needs nothing else: `false` changes nothing. After `Memory`
+    /// nothing is said.
+    fn goes_on(&mut self, byte: u8) -> Result<bool, Memory>
+        requires fits { IsFitState (2 ^ 24 - 1) (state_of self.old) }
+        ensures on { (at : ℕ) → result ≡ Ok true → step (state_of self.old) at byte ≡ Ok (state_of self.new) }
+        ensures off { result ≡ Ok false → self.new ≡ self.old }
+        ensures counts { (self.new.read ≡ self.old.read) × (self.new.blank ≡ self.old.blank) }
+    {
+        match &mut self.lexeme {
+            Lexeme::InQuotes(quoted) => quoted.goes_on(&self.nest, byte),
+            Lexeme::Name(_, name) => {
+                if !is_name_byte(byte) || name.count >= MAX_CHARACTERS {
+                    return Ok(false);
+                }
+                name.push(char::from(byte))?;
+                Ok(true)
+            }
+            Lexeme::Number(_, number) => {
+                if !byte.is_ascii_digit() {
+                    return Ok(false);
+                }
+                match number.with_digit(byte) {
+                    Some(next) => {
+                        *number = next;
+                        Ok(true)
+                    }
+                    None => Ok(false),
+                }
+            }
+            _ => Ok(false),
+        }
+    }
+
     /// Reads a byte that stands at an offset.
     fn step(&mut self, alloc: Global, at: u64, byte: u8) -> Result<(), TextFault>
+        requires fits { IsFitState (2 ^ 24 - 1) (state_of self.old) }
+        ensures ok { OnOk result (step (state_of self.old) at byte ≡ Ok (state_of self.new)) }
+        ensures syntax { (o : ℕ) (why : TextWhy) → result ≡ Err (Syntax o why) → step (state_of self.old) at byte ≡ Err (o, why) }
+        ensures counts { (self.new.read ≡ self.old.read) × (self.new.blank ≡ self.old.blank) }
+    {
+        match self.goes_on(byte) {
+            Ok(true) => Ok(()),
+            Ok(false) => self.turn(alloc, at, byte),
+            Err(Memory) => Err(TextFault::Memory),
+        }
+    }
+
+    /// Reads a byte that stands at an offset, whatever is begun.
+    fn turn(&mut self, alloc: Global, at: u64, byte: u8) -> Result<(), TextFault>
         requires fits { IsFitState (2 ^ 24 - 1) (state_of self.old) }
         ensures ok { OnOk result (step (state_of self.old) at byte ≡ Ok (state_of self.new)) }
         ensures syntax { (o : ℕ) (why : TextWhy) → result ≡ Err (Syntax o why) → step (state_of self.old) at byte ≡ Err (o, why) }

@@ -1,7 +1,7 @@
 use Rattle.std.proofs.Common.{◌≡◌}
 use Rattle.term_text.specs.declared.lexeme.Lexeme.TheVariants.{First, Minus, Number, Name}
 use Rattle.text_nest.specs.NestView.{nest_of}
-use Rattle.term_text.proofs.reader.Reader.step.Goals as goal
+use Rattle.term_text.proofs.reader.Reader.turn.Goals as goal
 
 pub returns-in-First-clause-ok : goal.returns-in-First-clause-ok
 returns-in-First-clause-ok c =
