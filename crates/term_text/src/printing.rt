@@ -93,10 +93,7 @@ fn print_integer(out: &mut ByteList, value: i128) -> Result<(), Memory>
     ensures { OnOk result (out.new ≡ out.old ++ signed_decimal value) }
 {
     let mut buffer = Buffer::new();
-    match i64::try_from(value) {
-        Ok(value) => out.extend_from_slice(buffer.format(value).as_bytes()),
-        Err(_) => out.extend_from_slice(buffer.format(value).as_bytes()),
-    }
+    out.extend_from_slice(buffer.format(value).as_bytes())
 }
 
 fn print_atom(out: &mut ByteList, name: &str) -> Result<(), Memory>
