@@ -32,8 +32,8 @@ fn objects_are_packed_and_unpacked(rt: HostRuntime) -> Result<(), Fail> {
     assert_eq!(rt; packed.exp, 0);
     assert_eq!(rt; packed.count, 1);
     assert!(rt; packed.block.as_slice() == BLOCK);
-    let found = unpack(alloc, Kind::Set, 1, &BLOCK[8..]);
-    assert!(rt; matches!(found, Ok(block) if block.objects.len() == 1));
+    let found = unpack(alloc, Kind::Set, 1, &BLOCK[8..]).map_err(|_| Memory)?;
+    assert_eq!(rt; found.objects.len(), 1);
     Ok(())
 }
 
