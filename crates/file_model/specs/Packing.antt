@@ -1,5 +1,6 @@
 -- Objects as a block that is to be written, and lemmas on its payload. This project's own.
-use Rattle.std.specs.Prelude.{◌≡◌, ◌≤◌, ℕ, suc, ◌-◌, ◌%◌, ◌^◌, pos, negsuc, Bool, true, false, cond, ◌&&◌, ◌==◌, nat_lt, nat_le, List, [], ◌∷◌, ◌++◌, length, map, Some, refl}
+use Rattle.std.specs.Prelude.{◌≡◌, ◌≤◌, ℕ, suc, ◌-◌, ◌%◌, ◌^◌, pos, negsuc, Bool, true, false}
+use Rattle.std.specs.Prelude.{cond, ◌&&◌, ◌==◌, nat_lt, nat_le, List, [], ◌∷◌, ◌++◌, length, map, Some, refl}
 use Rattle.std.specs.List.{concat, flat_map}
 use Rattle.std.specs.Int.{bytes_high_first}
 use Rattle.std.specs.Str.{encode_utf8_all}
