@@ -1,7 +1,8 @@
 -- The file that is made.
-use Rattle.std.proofs.Common.{◌≡◌, ◌-◌, ◌∙◌, ◌==◌, ℕ, true, false, List, [], ◌∷◌, length, Option, Some, None, option_map, Result, Ok, get_or, refl, ap, arith, inl}
+use Rattle.std.proofs.Common.{◌≡◌, ◌-◌, ◌∙◌, ◌==◌, ℕ, true, false, List, [], ◌∷◌, length, Option, Some, None, option_map, Result, Ok, get_or, refl, ap, arith, inl, sym}
 use Rattle.std.specs.Prelude.{min}
 use Rattle.std.proofs.lemmas.List.{ext_get_or, get_or-replicate}
+use Rattle.std.proofs.lemmas.Option.{same_Some}
 use Rattle.host_model.specs.Disk.{written_at, WhereTold}
 use Rattle.host_model.specs.Torn.{length-written_at, get_or-written_in}
 use Rattle.file_model.specs.declared.head.Head.{Head}
@@ -37,6 +38,11 @@ made_by h page None m n empty is first next = next ∙ ap (option_map (written_a
 made_by h page (Some f) m n empty is first next =
     let made : written_at 0 page f ≡ written_at 16 (body_of h) (zeros page_size) = ap (written_at 0 page) (empty f refl) ∙ all_written page ∙ is in
     next ∙ ap (option_map (written_at 0 (open_byte ∷ []))) first ∙ ap (λ p. Some (written_at 0 (open_byte ∷ []) p)) made
+
+-- what is told then is that page
+pub told_made : (h : Head) (o n : Option (List ℕ)) (f : List ℕ) → n ≡ option_map (λ x. made_page h) o → n ≡ Some f → f ≡ made_page h
+told_made h None n f e told = absurd (cc (e, told))
+told_made h (Some x) n f e told = same_Some f (made_page h) (sym told ∙ e)
 
 zeros_closed : is_open_copy true (zeros page_size) ≡ false
 unfolding zeros

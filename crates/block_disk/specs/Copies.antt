@@ -20,11 +20,6 @@ pub record HasHeader (h : Head) (before now : List ℕ) : Type 0 where
   pub header : head_of now ≡ Ok h
   pub outside : DiffersIn the_page before now
 
--- This header is located in it, and outside the header's page it is as before.
-pub record HasLocated (l : Located) (before now : List ℕ) : Type 0 where
-  pub found : located now ≡ Ok l
-  pub outside : DiffersIn the_page before now
-
 -- ---- what a call on a file leaves alone, whatever it answers: the output and the counts but that of disk faults
 pub record OnlyDisk (old new : Shown) : Type 0 where
   pub said : new.said ≡ old.said

@@ -7,7 +7,7 @@ ghost use Rattle.host_model.specs.Images.{LeavesImages};
 ghost use Rattle.file_model.specs.declared.head.Head.{Head};
 ghost use Rattle.file_model.specs.Layout.{page_size};
 ghost use Rattle.file_model.specs.Header.{is_allowed, located};
-ghost use Rattle.block_disk.specs.Copies.{HasHeader, HasEither, HasLocated, OnlyDisk, Stands, IsReady, Prepares, IsCurrent};
+ghost use Rattle.block_disk.specs.Copies.{HasHeader, HasEither, OnlyDisk, Stands, IsReady, Prepares, IsCurrent};
 
 use crate::copies::{write_copy, write_gate};
 use crate::places::whole_segments;
@@ -111,7 +111,7 @@ pub fn change_header<H: Host>(
     ensures any_moment { WhereTold (H.shows host.old).file
         (λ f. LeavesImages (H.shows host.old) (H.shows host.new) (HasEither place.old.head next f)) }
     ensures file { Changes (HasEither place.old.head next) (H.shows host.old).file (H.shows host.new).file }
-    ensures changed { OnOk result (Changes (HasLocated place.new) (H.shows host.old).file (H.shows host.new).file) }
+    ensures found { OnOk result (WhereTold (H.shows host.new).file (λ f. located f ≡ Ok place.new)) }
     ensures head { OnOk result (place.new.head ≡ next) }
     ensures err { OnErr result (place.new ≡ place.old) }
     ensures settled { OnOk result (Settled (H.shows host.new)) }

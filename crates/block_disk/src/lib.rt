@@ -26,3 +26,6 @@ pub use making::make;
 pub use reading::read_header;
 pub use segment::zero_segment;
 pub use units::{close_gate, open_gate, read_gates, read_head, read_payload, write_body};
+
+#[cfg(test)]
+mod tests;

@@ -27,7 +27,7 @@ pub fn make<H: Host>(host: &mut H, head: Head) -> Result<Located, DiskFailed>
     requires no_index { head.index ≡ None }
     requires empty { WhereTold (H.shows host.old).file (λ f. f ≡ []) }
     ensures made { OnOk result ((H.shows host.new).file ≡ option_map (λ _. made_page head) (H.shows host.old).file) }
-    ensures found { IfOk result (λ place. located (made_page head) ≡ Ok place) }
+    ensures found { IfOk result (λ place. WhereTold (H.shows host.new).file (λ f. located f ≡ Ok place)) }
     ensures head { IfOk result (λ place. place.head ≡ head) }
     ensures settled { OnOk result (Settled (H.shows host.new)) }
     ensures tearing { Tearing the_page (H.shows host.old) (H.shows host.new) }

@@ -1,5 +1,5 @@
 //! The reading of the header.
-ghost use Rattle.std.specs.Prelude.{◌≡◌, ◌≤◌, ◌+◌, length, Err, IsTrue, IfOk, OnOk, OnErr};
+ghost use Rattle.std.specs.Prelude.{◌≡◌, ◌≤◌, ◌+◌, length, Ok, Err, IsTrue, IfOk, OnOk, OnErr};
 ghost use Rattle.host_model.specs.Counts.{Rose};
 ghost use Rattle.host_model.specs.Disk.{WhereTold};
 ghost use Rattle.host_model.specs.Host.{Rests, CountsRead, MayCountRead};
@@ -64,6 +64,7 @@ fn read_copy<H: Host>(host: &mut H, second: bool) -> Result<Result<Head, Unreada
 /// that can be read; `Disk` comes only where a call on the disk failed.
 pub fn read_header<H: Host>(host: &mut H) -> Result<Located, HeadFault>
     ensures told { WhereTold (H.shows host.old).file (λ f. Answers result (located f)) }
+    ensures found { IfOk result (λ place. WhereTold (H.shows host.old).file (λ f. located f ≡ Ok place)) }
     ensures rests { Rests (H.shows host.old) (H.shows host.new) }
     ensures reads { IsTrue (H.shows host.old).tells_stops → (H.shows host.new).reads ≤ (H.shows host.old).reads + 2 }
     ensures cause { result ≡ Err HeadFault.Disk → Rose (H.shows host.old).disk_faults (H.shows host.new).disk_faults }

@@ -2,6 +2,7 @@ use Rattle.std.proofs.Common.{◌≡◌, Result, Ok, Err, inr, ap, sym, ◌∙�
 use Rattle.std.specs.Prelude.{min}
 use Rattle.std.specs.Result.{IsErr, IsErrAnd}
 use Rattle.file_model.specs.declared.head.Located.{Located}
+use Rattle.file_model.specs.declared.head.Unreadable.{Unreadable}
 use Rattle.file_model.specs.Layout.{page_of, segments_within}
 use Rattle.block_disk.specs.declared.fault.HeadFault.{HeadFault}
 use Rattle.block_disk.specs.Places.{per_segment}
@@ -35,14 +36,17 @@ returns-in_err-head-clause-told g c f told =
     ∙ sym (ap answer_for (located_long f (omega arith) ∙ ap (found_by (page_of f) (length f)) (sym copies ∙ c.in-Some.is)
     ∙ ap (found_in c.in-Some.second c.in-Some.other_gate (length f)) (sym head ∙ c.in_err-head.was))))
 
-pub returns-clause-told : goal.returns-clause-told
-returns-clause-told g c f told =
+pub returns-clause-found : goal.returns-clause-found
+returns-clause-found g c f told =
     let size = c.in_ok-len.ensures.length f told in
     let copies = c.in_ok-second.ensures.given f (c.len.ensures.rests.file ∙ told) in
     let head = c.in_ok-read_copy.ensures.given f (c.read_copies.ensures.rests.file ∙ c.len.ensures.rests.file ∙ told) in
     let h = c.in_ok-head.head in
     let whole = c.whole_segments.ensures ∙ ap (λ n. min h.segments (segments_within per_segment n)) size in
-    let made : Located → Result Located HeadFault = λ l. Ok l in
-    inr (ap (λ w. made (record { head = h; second = c.in-Some.second; other_gate = c.in-Some.other_gate; whole = w })) whole
-    ∙ sym (ap answer_for (located_long f (omega arith) ∙ ap (found_by (page_of f) (length f)) (sym copies ∙ c.in-Some.is)
-    ∙ ap (found_in c.in-Some.second c.in-Some.other_gate (length f)) (sym head ∙ c.in_ok-head.was))))
+    let made : Located → Result Located Unreadable = λ l. Ok l in
+    located_long f (omega arith) ∙ ap (found_by (page_of f) (length f)) (sym copies ∙ c.in-Some.is)
+    ∙ ap (found_in c.in-Some.second c.in-Some.other_gate (length f)) (sym head ∙ c.in_ok-head.was)
+    ∙ sym (ap (λ w. made (record { head = h; second = c.in-Some.second; other_gate = c.in-Some.other_gate; whole = w })) whole)
+
+pub returns-clause-told : goal.returns-clause-told
+returns-clause-told g c f told = inr (sym (ap answer_for (returns-clause-found g c f told)))
