@@ -1,5 +1,6 @@
 -- What torn writes to one copy of the header leave of both.
-use Rattle.std.proofs.Common.{◌≡◌, ◌≤◌, ◌<◌, ◌+◌, ◌-◌, ◌∙◌, ◌==◌, ℕ, Bool, true, false, cond, List, [], ◌∷◌, length, slice_range, refl, sym, ap, subst, arith, get_or, inl, inr, ⊎_elim}
+use Rattle.std.proofs.Common.{◌≡◌, ◌≤◌, ◌<◌, ◌+◌, ◌-◌, ◌∙◌, ◌==◌, ℕ, Bool, true, false, cond, List, [], ◌∷◌, length, slice_range, refl, sym, ap}
+use Rattle.std.proofs.Common.{subst, arith, get_or, inl, inr, ⊎_elim}
 use Rattle.std.specs.Prelude.{not, ◌⊎◌}
 use Rattle.std.proofs.lemmas.Bool.{or_parts}
 use Rattle.host_model.specs.Disk.{range, is_in, DiffersIn, written_at}
@@ -90,7 +91,8 @@ gate_torn second old new page d =
           (inr (omega (arith, a.own)));
     }
 
-pub body_torn : (second : Bool) (old new : List ℕ) → page_size ≤ length old → DiffersIn (range (body_at second) body_size ∷ []) old new → TearsBody second old new
+pub body_torn : (second : Bool) (old new : List ℕ) → page_size ≤ length old → DiffersIn (range (body_at second) body_size ∷ []) old new
+    → TearsBody second old new
 body_torn second old new page d =
     let a = apart_copies second in
     let o = other_body_in_page second in

@@ -1,5 +1,6 @@
 -- Which header a file has, by the gates and bodies of its two copies.
-use Rattle.std.proofs.Common.{◌≡◌, ◌≤◌, ◌∙◌, ℕ, Bool, true, false, cond, List, length, Some, None, Result, Ok, Err, refl, sym, ap, subst, arith, inl, inr, ⊎_elim}
+use Rattle.std.proofs.Common.{◌≡◌, ◌≤◌, ◌∙◌, ℕ, Bool, true, false, cond, List, length, Some, None, Result, Ok, Err, refl, sym, ap, subst, arith}
+use Rattle.std.proofs.Common.{inl, inr, ⊎_elim}
 use Rattle.std.specs.Prelude.{min, not, ◌⊎◌}
 use Rattle.std.proofs.lemmas.Bool.{cases_lt, or_parts}
 use Rattle.host_model.specs.Disk.{DiffersIn, range, is_in}
@@ -16,7 +17,8 @@ use Rattle.block_disk.specs.Copies.{is_open_copy, copy_body, Stands}
 use Rattle.block_disk.proofs.Pages.{gate_in_page, body_in_page, head_by_page, found_in, found_by, located_long, located_short}
 
 head_cases : (page : List ℕ) (a b : Bool)
-    → head_of_copy page (cond a (Some false) (cond b (Some true) None)) ≡ cond a (head_in (body_in page false)) (cond b (head_in (body_in page true)) (Err NotDets))
+    → head_of_copy page (cond a (Some false) (cond b (Some true) None))
+    ≡ cond a (head_in (body_in page false)) (cond b (head_in (body_in page true)) (Err NotDets))
 head_cases page true b = refl
 head_cases page false true = refl
 head_cases page false false = refl

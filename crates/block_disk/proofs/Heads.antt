@@ -1,5 +1,6 @@
 -- The head of a block, in eight bytes.
-use Rattle.std.proofs.Common.{◌≡◌, ◌≤◌, ◌<◌, ◌-◌, ◌^◌, ◌&&◌, ◌==◌, nat_le, ◌∙◌, ℕ, true, false, List, [], ◌∷◌, ◌++◌, length, drop, slice_index, Some, refl, ap, arith}
+use Rattle.std.proofs.Common.{◌≡◌, ◌≤◌, ◌<◌, ◌-◌, ◌^◌, ◌&&◌, ◌==◌, nat_le, ◌∙◌, ℕ, true, false, List, [], ◌∷◌, ◌++◌, length, drop, slice_index}
+use Rattle.std.proofs.Common.{Some, refl, ap, arith}
 use Rattle.std.proofs.Math.Pow.{pow_mono}
 use Rattle.std.proofs.lemmas.Bool.{le-leb, lt-leb}
 use Rattle.byteorder.specs.Endian.{big_number, big_bytes}
@@ -37,4 +38,5 @@ pub head_back : (exp count : ℕ) → exp ≤ 12 → count ≤ run_size exp - he
 head_back exp count l m =
     let most = no_larger exp l in
     let back : big_number 4 (big_bytes 4 count ++ []) ≡ count = big_number-reads_back 4 count [] (omega arith) in
-    ap (λ n. if_well_formed per_segment true (record { exp = exp; count = n })) back ∙ rw (judged_by_length exp count l, le-leb count (run_size exp - head_size) m) refl
+    ap (λ n. if_well_formed per_segment true (record { exp = exp; count = n })) back
+    ∙ rw (judged_by_length exp count l, le-leb count (run_size exp - head_size) m) refl

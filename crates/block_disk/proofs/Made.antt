@@ -1,5 +1,6 @@
 -- The file that is made.
-use Rattle.std.proofs.Common.{◌≡◌, ◌-◌, ◌∙◌, ◌==◌, ℕ, true, false, List, [], ◌∷◌, length, Option, Some, None, option_map, Result, Ok, get_or, refl, ap, arith, inl, sym}
+use Rattle.std.proofs.Common.{◌≡◌, ◌-◌, ◌∙◌, ◌==◌, ℕ, true, false, List, [], ◌∷◌, length, Option, Some, None, option_map, Result, Ok, get_or}
+use Rattle.std.proofs.Common.{refl, ap, arith, inl, sym}
 use Rattle.std.specs.Prelude.{min}
 use Rattle.std.proofs.lemmas.List.{ext_get_or, get_or-replicate}
 use Rattle.std.proofs.lemmas.Option.{same_Some}

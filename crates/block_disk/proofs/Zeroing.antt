@@ -7,7 +7,8 @@ use Rattle.std.proofs.lemmas.Bool.{cases_lt, or_parts}
 use Rattle.std.proofs.lemmas.Grind.{common_steps}
 use Rattle.std.proofs.lemmas.List.{ext_get_or, append-nil, take-append-drop, length-replicate, replicate-append-replicate}
 use Rattle.host_model.specs.Disk.{range, in_doubt, furthest, DiffersIn, written_at, WhereTold}
-use Rattle.host_model.specs.Torn.{is_in-below, is_in-above, is_in-false, or_falses, length-written_at, get_or-written_below, get_or-written_in, get_or-written_above}
+use Rattle.host_model.specs.Torn.{is_in-below, is_in-above, is_in-false, or_falses, length-written_at, get_or-written_below, get_or-written_in}
+use Rattle.host_model.specs.Torn.{get_or-written_above}
 use Rattle.host_model.specs.Writes.{ranges_of, with_writes, BeginInside}
 use Rattle.block_disk.specs.Zeroed.{zeros, zero_pages}
 

@@ -1,13 +1,18 @@
-// What no clause says: that each call succeeds, the bytes of a file from outside, and that a header change over a host in
-// memory, stopped at each moment, reads back as the old header or the new one.
-ghost use Rattle.std.specs.Prelude.{◌≤◌, length};
+// What no clause says: that each call succeeds, and that a header change over a host in memory, stopped at each moment,
+// reads back as the old header or the new one.
+ghost use Rattle.std.specs.Prelude.{◌≡◌, ◌≤◌, true, length, Ok, IsTrue, IfOk};
+ghost use Rattle.host_model.specs.Host.{Settled};
+ghost use Rattle.host_model.specs.Disk.{WhereTold};
+ghost use Rattle.host_model.specs.MemHost.{shown_of};
+ghost use Rattle.file_model.specs.Header.{is_allowed, located};
 
 use crate::{
-    FileState, Head, change_header, close_gate, head_bytes, make, open_gate, read_gates, read_head,
-    read_header, read_payload, write_body, zero_segment,
+    FileState, Head, Located, change_header, close_gate, head_bytes, make, open_gate, read_gates,
+    read_head, read_header, read_payload, write_body, zero_segment,
 };
-use host_model::{MemHost, Memory, Pick};
+use host_model::{FileHost, Host, MemHost, Memory, Pick};
 use std::alloc::Global;
+use std::fs;
 use std::test::Fail;
 use term_model::Kind;
 
@@ -59,61 +64,89 @@ fn all_have_either(
     Ok(true)
 }
 
+// Changes a header. Whether that succeeded, and each image meanwhile has the old header or the new one.
+fn changes(
+    alloc: Global,
+    host: &mut MemHost,
+    place: &mut Located,
+    next: Head,
+) -> Result<bool, Memory>
+    requires settled { Settled (shown_of host.old) }
+    requires allowed { is_allowed next ≡ true }
+    requires place { WhereTold (shown_of host.old).file (λ f. located f ≡ Ok place.old) }
+    ensures settled { IfOk result (λ done. IsTrue done → Settled (shown_of host.new)) }
+    ensures place { IfOk result (λ done. IsTrue done
+        → WhereTold (shown_of host.new).file (λ f. located f ≡ Ok place.new)) }
+{
+    let from = host.moments();
+    let old = place.head;
+    match change_header(host, place, next) {
+        Ok(()) => {
+            let done = all_have_either(alloc, host, (from, host.moments()), (old, next))?;
+            Ok(done)
+        }
+        Err(_) => Ok(false),
+    }
+}
+
+// The same twice over, from a file that is made, so from both copies. The host as it is then.
+fn changes_twice(alloc: Global) -> Result<Option<MemHost>, Memory> {
+    let mut host = MemHost::new(alloc, &[], &[])?;
+    let Ok(mut place) = make(&mut host, CLOSED) else {
+        return Ok(None);
+    };
+    if changes(alloc, &mut host, &mut place, DIRTY)?
+        && changes(alloc, &mut host, &mut place, CLOSED)?
+    {
+        Ok(Some(host))
+    } else {
+        Ok(None)
+    }
+}
+
 #[test]
 fn a_header_change_stopped_at_each_moment_reads_back(rt: HostRuntime) -> Result<(), Fail> {
-    let mut host = MemHost::new(rt.alloc(), &[], &[])?;
-    let mut place = make(&mut host, CLOSED).expect(&rt, "made");
-    let made = host.moments();
-    change_header(&mut host, &mut place, DIRTY).expect(&rt, "changed");
-    let dirty = host.moments();
-    assert!(rt; all_have_either(rt.alloc(), &host, (made, dirty), (CLOSED, DIRTY))?);
-    change_header(&mut host, &mut place, CLOSED).expect(&rt, "changed back");
-    let closed = host.moments();
-    assert!(rt; all_have_either(rt.alloc(), &host, (dirty, closed), (DIRTY, CLOSED))?);
-    assert_eq!(rt; (made, dirty, closed), (4, 10, 16));
-    assert_eq!(rt; read_header(&mut host), Ok(place));
-
-    // Both gates are open before the last write of the first change.
-    let mut both = host.restart(rt.alloc(), 8, Pick::Old)?;
-    let mut place = read_header(&mut both).expect(&rt, "a header");
-    assert!(rt; place.other_gate);
-    change_header(&mut both, &mut place, DIRTY).expect(&rt, "changed again");
-    assert_eq!(rt; both.moments(), 8);
-    assert!(rt; all_have_either(rt.alloc(), &both, (0, 8), (CLOSED, DIRTY))?);
+    let Some(host) = changes_twice(rt.alloc())? else {
+        panic!(rt; "the headers were not changed")
+    };
+    assert_eq!(rt; host.moments(), 16);
     Ok(())
 }
 
 // The list of `{k,1}` alone.
 const PAYLOAD: [u8; 14] = [131, 108, 0, 0, 0, 1, 104, 2, 119, 1, 107, 97, 1, 106];
 
-const LENGTH: usize = 270_336;
-
 #[test]
 fn a_block_is_written_and_read_back(rt: HostRuntime) -> Result<(), Fail> {
-    let mut host = MemHost::new(rt.alloc(), &[], &[])?;
-    make(&mut host, CLOSED).expect(&rt, "made");
-    assert_eq!(rt; host.file().len(), 4096);
-    zero_segment(&mut host, 0).expect(&rt, "a segment");
-    assert_eq!(rt; host.file().len(), LENGTH);
-    let mut block = [0; 22];
-    block[..8].copy_from_slice(&head_bytes(0, 14));
-    block[8..].copy_from_slice(&PAYLOAD);
-    write_body(&mut host, 5, &block).expect(&rt, "a body");
-    assert_eq!(rt; host.file().len(), LENGTH);
-    open_gate(&mut host, 5).expect(&rt, "a gate");
-    assert_eq!(rt; host.file().len(), LENGTH);
-    let mut gates = [1; 4096];
-    read_gates(&mut host, 0, &mut gates).expect(&rt, "the gates");
-    assert_eq!(rt; &gates[4..7], [0, 165, 0].as_slice());
-    assert_eq!(rt; host.file().len(), LENGTH);
+    let name = "block_disk_file";
+    let _ = fs::remove_file(&rt, name);
+    let mut host = FileHost::new(&rt, rt.alloc(), Some(name))?;
+    assert!(rt; make(&mut host, CLOSED).is_ok());
+    assert_eq!(rt; zero_segment(&mut host, 0), Ok(()));
+    assert_eq!(rt; host.len(), Ok(270_336));
+    assert_eq!(rt; write_body(&mut host, 5, &head_bytes(0, 14)), Ok(()));
+    assert_eq!(rt; host.write_at(8520, &PAYLOAD), Ok(()));
+    assert_eq!(rt; open_gate(&mut host, 5), Ok(()));
     assert_eq!(rt; read_head(&mut host, 5), Ok(Some((0, 14))));
-    assert_eq!(rt; host.file().len(), LENGTH);
     let mut payload = [0; 14];
-    read_payload(&mut host, 5, &mut payload).expect(&rt, "a payload");
+    assert_eq!(rt; read_payload(&mut host, 5, &mut payload), Ok(()));
     assert_eq!(rt; payload, PAYLOAD);
-    assert_eq!(rt; host.file().len(), LENGTH);
-    close_gate(&mut host, 5).expect(&rt, "the gate");
-    assert_eq!(rt; &host.file()[4100..4102], [0, 0].as_slice());
-    assert_eq!(rt; &host.file()[8512..8520], head_bytes(0, 14).as_slice());
+    assert_eq!(rt; close_gate(&mut host, 5), Ok(()));
+    fs::remove_file(&rt, name)?;
+    Ok(())
+}
+
+#[test]
+fn the_gates_of_a_segment_are_read(rt: HostRuntime) -> Result<(), Fail> {
+    let name = "block_disk_gates";
+    let _ = fs::remove_file(&rt, name);
+    let mut host = FileHost::new(&rt, rt.alloc(), Some(name))?;
+    assert!(rt; make(&mut host, CLOSED).is_ok());
+    assert_eq!(rt; zero_segment(&mut host, 0), Ok(()));
+    assert_eq!(rt; open_gate(&mut host, 5), Ok(()));
+    let mut gates = [1; 4096];
+    assert_eq!(rt; read_gates(&mut host, 0, &mut gates), Ok(()));
+    assert_eq!(rt; &gates[4..7], [0, 165, 0].as_slice());
+    fs::remove_file(&rt, name)?;
     Ok(())
 }

@@ -10,7 +10,8 @@ use Rattle.block_disk.proofs.Zeroing.{how_many, begin_inside, file_zeroed, in_on
 use Rattle.block_disk.proofs.segment.zero_segment.Goals as goal
 
 pub write_all-requires : goal.write_all-requires
-write_all-requires g c f told = begin_inside page_size c.from_place.result.at 65 f (omega (arith, c.requires f told, c.from_place.ensures, c.segment_at.ensures))
+write_all-requires g c f told =
+    begin_inside page_size c.from_place.result.at 65 f (omega (arith, c.requires f told, c.from_place.ensures, c.segment_at.ensures))
 
 pub returns-clause-written : goal.returns-clause-written
 returns-clause-written g c =
