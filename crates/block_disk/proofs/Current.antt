@@ -10,8 +10,8 @@ use Rattle.file_model.specs.declared.head.Located.{Located}
 use Rattle.file_model.specs.declared.head.Unreadable.{Unreadable}
 use Rattle.file_model.specs.declared.head.Unreadable.TheVariants.{NotDets}
 use Rattle.file_model.specs.Layout.{page_size, copy_at, is_open_at, page_of, segments_within}
-use Rattle.file_model.specs.Header.{body_in, head_in, head_of_copy, head_of, located}
-use Rattle.block_disk.specs.Places.{per_segment, the_page}
+use Rattle.file_model.specs.Header.{segment_units, body_in, head_in, head_of_copy, head_of, located}
+use Rattle.block_disk.specs.Places.{the_page}
 use Rattle.block_disk.specs.Answer.{copies_by}
 use Rattle.block_disk.specs.Copies.{is_open_copy, copy_body, Stands}
 use Rattle.block_disk.proofs.Pages.{gate_in_page, body_in_page, head_by_page, found_in, found_by, located_long, located_short}
@@ -56,7 +56,7 @@ located_by f a b l ea eb =
     located_long f l ∙ (λ i. found_by (page_of f) (length f) (copies_by (ga i) (gb i)))
 
 abbrev pub the_located : Bool → Head → List ℕ → Located
-the_located second h f = record { head = h; second = second; other_gate = false; whole = min h.segments (segments_within per_segment (length f)) }
+the_located second h f = record { head = h; second = second; other_gate = false; whole = min h.segments (segments_within segment_units (length f)) }
 
 found_current : (second : Bool) (h : Head) (f : List ℕ) → head_in (copy_body second f) ≡ Ok h
     → found_in second false (length f) (head_in (body_in (page_of f) second)) ≡ Ok (the_located second h f)
@@ -72,7 +72,7 @@ stands_found : (f : List ℕ) (l : Located) (second other : Bool) (r : Result He
     → (second ≡ false) ⊎ (other ≡ false) → Stands l.second l.other_gate l.head f
 stands_found f l second other (Err why) e page o g h first = absurd (cc e)
 stands_found f l second other (Ok head) e page o g h first =
-    let found : Located = record { head = head; second = second; other_gate = other; whole = min head.segments (segments_within per_segment (length f)) } in
+    let found : Located = record { head = head; second = second; other_gate = other; whole = min head.segments (segments_within segment_units (length f)) } in
     let same : found ≡ l = cc e in
     subst (λ (x : Located). Stands x.second x.other_gate x.head f) same
     (record { page = page; current = o; gate = g; head = h; first = first })

@@ -9,11 +9,11 @@ use Rattle.space_model.specs.Sizes.{head_size}
 use Rattle.file_model.specs.Layout.{run_size}
 use Rattle.file_model.specs.Block.{is_well_formed, if_well_formed, block_head}
 use Rattle.file_model.specs.BodyWrites.{head_bytes}
-use Rattle.block_disk.specs.Places.{per_segment}
+use Rattle.file_model.specs.Header.{segment_units}
 
 -- eight bytes by their places
 pub block_head_at : (xs : List ℕ) → length xs ≡ 8
-    → block_head per_segment xs ≡ if_well_formed per_segment (slice_index xs 1 == 0 && (slice_index xs 2 == 0 && slice_index xs 3 == 0))
+    → block_head segment_units xs ≡ if_well_formed segment_units (slice_index xs 1 == 0 && (slice_index xs 2 == 0 && slice_index xs 3 == 0))
     (record { exp = slice_index xs 0; count = big_number 4 (drop 4 xs) })
 block_head_at [] l = absurd (omega arith)
 block_head_at (a ∷ []) l = absurd (omega arith)
@@ -27,16 +27,16 @@ no_larger exp l = pow_mono {i = exp} {j = 12} l
 larger : (exp : ℕ) → 12 < exp → 4096 < 2 ^ exp
 larger exp l = let twice : 2 ^ 13 ≤ 2 ^ exp = pow_mono {i = 13} {j = exp} l in omega arith
 
-pub judged_by_length : (exp count : ℕ) → exp ≤ 12 → is_well_formed per_segment (record { exp = exp; count = count }) ≡ nat_le count (run_size exp - head_size)
+pub judged_by_length : (exp count : ℕ) → exp ≤ 12 → is_well_formed segment_units (record { exp = exp; count = count }) ≡ nat_le count (run_size exp - head_size)
 judged_by_length exp count l = rw (le-leb (2 ^ exp) 4096 (no_larger exp l)) refl
 
-pub too_large : (exp count : ℕ) → 12 < exp → is_well_formed per_segment (record { exp = exp; count = count }) ≡ false
+pub too_large : (exp count : ℕ) → 12 < exp → is_well_formed segment_units (record { exp = exp; count = count }) ≡ false
 too_large exp count l = rw (lt-leb (2 ^ exp) 4096 (larger exp l)) refl
 
 pub head_back : (exp count : ℕ) → exp ≤ 12 → count ≤ run_size exp - head_size
-    → block_head per_segment (head_bytes exp count) ≡ Some (record { exp = exp; count = count })
+    → block_head segment_units (head_bytes exp count) ≡ Some (record { exp = exp; count = count })
 head_back exp count l m =
     let most = no_larger exp l in
     let back : big_number 4 (big_bytes 4 count ++ []) ≡ count = big_number-reads_back 4 count [] (omega arith) in
-    ap (λ n. if_well_formed per_segment true (record { exp = exp; count = n })) back
+    ap (λ n. if_well_formed segment_units true (record { exp = exp; count = n })) back
     ∙ rw (judged_by_length exp count l, le-leb count (run_size exp - head_size) m) refl

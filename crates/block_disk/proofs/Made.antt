@@ -11,7 +11,7 @@ use Rattle.file_model.specs.declared.head.Located.{Located}
 use Rattle.file_model.specs.declared.head.Unreadable.{Unreadable}
 use Rattle.file_model.specs.Layout.{page_size, open_byte, segments_within}
 use Rattle.file_model.specs.Header.{body_of, head_in, located}
-use Rattle.block_disk.specs.Places.{per_segment}
+use Rattle.file_model.specs.Header.{segment_units}
 use Rattle.block_disk.specs.Copies.{is_open_copy, Stands}
 use Rattle.block_disk.specs.Zeroed.{zeros, made_page}
 use Rattle.block_disk.proofs.CopiesTorn.{gate_written, body_written}
@@ -69,6 +69,6 @@ pub made_located : (h : Head) → head_in (body_of h) ≡ Ok h → h.segments �
     → located (made_page h) ≡ Ok (record { head = h; second = false; other_gate = false; whole = 0 })
 made_located h back none =
     let made : Located → Result Located Unreadable = λ l. Ok l in
-    let whole : min h.segments (segments_within per_segment (length (made_page h))) ≡ 0 = omega (arith, none) in
+    let whole : min h.segments (segments_within segment_units (length (made_page h))) ≡ 0 = omega (arith, none) in
     located_current false h (made_page h) (made_stands h back)
     ∙ ap (λ n. made (record { head = h; second = false; other_gate = false; whole = n })) whole

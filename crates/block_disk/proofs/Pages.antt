@@ -10,7 +10,7 @@ use Rattle.file_model.specs.declared.head.Unreadable.{Unreadable}
 use Rattle.file_model.specs.declared.head.Unreadable.TheVariants.{NotDets}
 use Rattle.file_model.specs.Layout.{page_size, copy_at, body_at, body_size, open_byte, is_open_at, page_of, segments_within}
 use Rattle.file_model.specs.Header.{current_copy, body_in, head_in, head_of_copy, head_of_page, head_of, located_at, located}
-use Rattle.block_disk.specs.Places.{per_segment}
+use Rattle.file_model.specs.Header.{segment_units}
 use Rattle.block_disk.specs.Answer.{copies_by, copies_in}
 
 -- ---- a part of a front is a part of the whole
@@ -55,7 +55,7 @@ copies_of_front image =
 abbrev pub found_in : Bool → Bool → ℕ → Result Head Unreadable → Result Located Unreadable
 found_in second other size (Err why) = Err why
 found_in second other size (Ok h) =
-    Ok (record { head = h; second = second; other_gate = other; whole = min h.segments (segments_within per_segment size) })
+    Ok (record { head = h; second = second; other_gate = other; whole = min h.segments (segments_within segment_units size) })
 
 abbrev pub found_by : List ℕ → ℕ → Option (Bool × Bool) → Result Located Unreadable
 found_by page size None = Err NotDets
@@ -65,7 +65,7 @@ with_other : (page : List ℕ) (size : ℕ) (second other : Bool) (r : Result He
     → located_at page size (Some second) r ≡ found_in second other size r
 with_other page size second other (Err why) e = refl
 with_other page size second other (Ok h) e =
-    ap (λ (x : Bool). Ok (record { head = h; second = second; other_gate = x; whole = min h.segments (segments_within per_segment size) })) e
+    ap (λ (x : Bool). Ok (record { head = h; second = second; other_gate = x; whole = min h.segments (segments_within segment_units size) })) e
 
 by_gates : (page : List ℕ) (size : ℕ) (a b : Bool) → is_open_at page (copy_at false) ≡ a → is_open_at page (copy_at true) ≡ b
     → located_at page size (cond a (Some false) (cond b (Some true) None)) (head_of_copy page (cond a (Some false) (cond b (Some true) None)))

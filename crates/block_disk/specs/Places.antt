@@ -1,11 +1,7 @@
 -- The layout of every file that this crate reads and writes. This project's own.
-use Rattle.std.specs.Prelude.{ℕ, List, [], ◌∷◌}
+use Rattle.std.specs.Prelude.{List, [], ◌∷◌}
 use Rattle.host_model.specs.Disk.{Range, range}
 use Rattle.file_model.specs.Layout.{page_size}
-
--- the units of a segment
-abbrev pub per_segment : ℕ
-per_segment = 4096
 
 -- the range of the header's page
 abbrev pub the_page : List Range

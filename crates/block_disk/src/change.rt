@@ -15,7 +15,7 @@ use file_model::laws::a_header_that_was_written_is_read;
 use file_model::{Head, Located};
 use host_model::{DiskFailed, Host};
 
-// Closes the gate of the other copy, where it is open.
+/// Closes the gate of the other copy, where it is open.
 fn close_other<H: Host>(host: &mut H, place: &Located) -> Result<(), DiskFailed>
     requires settled { Settled (H.shows host.old) }
     requires stands { WhereTold (H.shows host.old).file (Stands place.now.second place.now.other_gate place.now.head) }
@@ -36,7 +36,7 @@ fn close_other<H: Host>(host: &mut H, place: &Located) -> Result<(), DiskFailed>
     write_gate(host, !place.second, false)
 }
 
-// Closes the gate of the other copy and writes its body.
+/// Closes the gate of the other copy and writes its body.
 fn prepare<H: Host>(host: &mut H, place: &Located, next: &Head) -> Result<(), DiskFailed>
     requires settled { Settled (H.shows host.old) }
     requires allowed { is_allowed next.now ≡ true }
@@ -57,7 +57,7 @@ fn prepare<H: Host>(host: &mut H, place: &Located, next: &Head) -> Result<(), Di
     write_copy(host, !place.second, next)
 }
 
-// Opens the gate of the copy that is ready, and then closes that of this one.
+/// Opens the gate of the copy that is ready, and then closes that of this one.
 fn switch_copies<H: Host>(host: &mut H, second: bool) -> Result<(), DiskFailed>
     requires settled { Settled (H.shows host.old) }
     requires page { WhereTold (H.shows host.old).file (λ f. page_size ≤ length f) }
@@ -77,7 +77,7 @@ fn switch_copies<H: Host>(host: &mut H, second: bool) -> Result<(), DiskFailed>
     write_gate(host, second, false)
 }
 
-// The four steps.
+/// The four steps.
 fn change_copies<H: Host>(host: &mut H, place: &Located, next: &Head) -> Result<(), DiskFailed>
     requires settled { Settled (H.shows host.old) }
     requires allowed { is_allowed next.now ≡ true }

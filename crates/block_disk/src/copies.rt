@@ -14,14 +14,14 @@ use crate::step::put_lasting;
 use file_model::Head;
 use host_model::{DiskFailed, Host};
 
-// The byte of an open gate, or of a closed one.
+/// The byte of an open gate, or of a closed one.
 fn gate_byte(is_open: bool) -> u8
     ensures { result ≡ cond is_open open_byte closed_byte }
 {
     if is_open { OPEN } else { CLOSED }
 }
 
-// Opens or closes the gate of a copy.
+/// Opens or closes the gate of a copy.
 pub(crate) fn write_gate<H: Host>(
     host: &mut H,
     second: bool,
@@ -43,7 +43,7 @@ pub(crate) fn write_gate<H: Host>(
     put_lasting(host, copy_at(second), &[gate])
 }
 
-// Writes the body of a copy.
+/// Writes the body of a copy.
 pub(crate) fn write_copy<H: Host>(host: &mut H, second: bool, head: &Head) -> Result<(), DiskFailed>
     requires settled { Settled (H.shows host.old) }
     requires page { WhereTold (H.shows host.old).file (λ f. page_size ≤ length f) }

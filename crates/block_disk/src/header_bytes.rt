@@ -73,7 +73,7 @@ fn index_number(index: Option<u32>) -> u32
     }
 }
 
-// The body of a header.
+/// The body of a header.
 pub(crate) fn body_bytes(head: &Head) -> [u8; 32]
     ensures { result ≡ body_of head.now }
 {
@@ -89,7 +89,7 @@ pub(crate) fn body_bytes(head: &Head) -> [u8; 32]
     body
 }
 
-// Whether the index may stand there.
+/// Whether the index may stand there.
 fn may_name(state: FileState, segments: u32, index: Option<u32>) -> bool
     requires { segments ≤ 8000 }
     ensures { result ≡ may_name state (4096 * segments) index }
@@ -101,7 +101,7 @@ fn may_name(state: FileState, segments: u32, index: Option<u32>) -> bool
     }
 }
 
-// Whether the fields are in range.
+/// Whether the fields are in range.
 fn is_allowed(head: &Head) -> bool
     ensures { result ≡ is_allowed head.now }
 {
@@ -114,7 +114,7 @@ fn is_allowed(head: &Head) -> bool
         && may_name(head.state, head.segments, head.index)
 }
 
-// The header itself, where its fields are in range.
+/// The header itself, where its fields are in range.
 fn if_allowed(head: Head) -> Result<Head, Unreadable>
     ensures { result ≡ if_allowed head }
 {
@@ -125,21 +125,21 @@ fn if_allowed(head: Head) -> Result<Head, Unreadable>
     }
 }
 
-// Whether its first bytes are those of every header.
+/// Whether its first bytes are those of every header.
 fn has_magic(body: &[u8; 32]) -> bool
     ensures { result ≡ bytes_eq (slice_range body.now 0 4) magic }
 {
     &body[..4] == MAGIC.as_slice()
 }
 
-// Whether the bytes are zero that are to be.
+/// Whether the bytes are zero that are to be.
 fn has_zeros(body: &[u8; 32]) -> bool
     ensures { result ≡ has_zeros body.now }
 {
     body[7] == 0 && body[24..32].iter().all(|b| *b == 0)
 }
 
-// The number in the four bytes from a place on.
+/// The number in the four bytes from a place on.
 fn number_at(body: &[u8; 32], at: usize) -> u32
     requires { at + 4 ≤ 32 }
     ensures { result ≡ number_at body.now at }
@@ -147,7 +147,7 @@ fn number_at(body: &[u8; 32], at: usize) -> u32
     BigEndian::read_u32(&body[at..])
 }
 
-// The header of a body that has this state and kind.
+/// The header of a body that has this state and kind.
 fn head_with(body: &[u8; 32], state: FileState, kind: Kind) -> Result<Head, Unreadable>
     ensures { result ≡ head_with body.now (Some state) (Some kind) }
 {
@@ -162,7 +162,7 @@ fn head_with(body: &[u8; 32], state: FileState, kind: Kind) -> Result<Head, Unre
     })
 }
 
-// The header of a body.
+/// The header of a body.
 pub(crate) fn head_in(body: &[u8; 32]) -> Result<Head, Unreadable>
     ensures { result ≡ head_in body.now }
 {

@@ -21,7 +21,7 @@ mod zero_pages;
 pub use block_head::head_bytes;
 pub use change::change_header;
 pub use fault::HeadFault;
-pub use file_model::{FileState, Head, Located, Unreadable};
+pub use file_model::{FileState, Head, Located, Packed, Unreadable};
 pub use making::make;
 pub use reading::read_header;
 pub use segment::zero_segment;

@@ -47,7 +47,7 @@ pub fn make<H: Host>(host: &mut H, head: Head) -> Result<Located, DiskFailed>
     })
 }
 
-// A page whose first copy has this body; all else is zero.
+/// A page whose first copy has this body; all else is zero.
 fn blank_page(head: &Head) -> [u8; 4096]
     ensures { result ≡ written_at 16 (body_of head.now) (zeros page_size) }
 {
@@ -56,7 +56,7 @@ fn blank_page(head: &Head) -> [u8; 4096]
     page
 }
 
-// Puts a body into a page.
+/// Puts a body into a page.
 fn put_body(page: &mut [u8], body: &[u8; 32])
     requires { 48 ≤ length page.old }
     ensures { page.new ≡ written_at 16 body.now page.old }

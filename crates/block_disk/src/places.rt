@@ -1,9 +1,9 @@
 //! Where the parts of a file stand: the layout of `file_model`, computed.
 ghost use Rattle.std.specs.Prelude.{◌≡◌, min};
 ghost use Rattle.file_model.specs.Layout.{copy_at, body_at, segment_at, gate_at, unit_at, segments_within};
-ghost use Rattle.block_disk.specs.Places.{per_segment};
+ghost use Rattle.file_model.specs.Header.{segment_units};
 
-// An open gate and a closed one.
+/// An open gate and a closed one.
 pub(crate) const OPEN: u8 = 165;
 
 pub(crate) const CLOSED: u8 = 0;
@@ -27,26 +27,26 @@ pub(crate) fn body_at(second: bool) -> u64
 }
 
 pub(crate) fn segment_at(segment: u32) -> u64
-    ensures { result ≡ segment_at per_segment segment }
+    ensures { result ≡ segment_at segment_units segment }
 {
     PAGE_BYTES + SEGMENT_BYTES * u64::from(segment)
 }
 
 pub(crate) fn gate_at(unit: u32) -> u64
-    ensures { result ≡ gate_at per_segment unit }
+    ensures { result ≡ gate_at segment_units unit }
 {
     segment_at(unit / UNITS) + u64::from(unit % UNITS)
 }
 
 pub(crate) fn unit_at(unit: u32) -> u64
-    ensures { result ≡ unit_at per_segment unit }
+    ensures { result ≡ unit_at segment_units unit }
 {
     segment_at(unit / UNITS) + u64::from(UNITS) + 64 * u64::from(unit % UNITS)
 }
 
-// How many of so many segments lie wholly in a file of this length.
+/// How many of so many segments lie wholly in a file of this length.
 pub(crate) fn whole_segments(segments: u32, len: u64) -> u32
-    ensures { result ≡ min segments (segments_within per_segment len) }
+    ensures { result ≡ min segments (segments_within segment_units len) }
 {
     let within = len.saturating_sub(PAGE_BYTES) / SEGMENT_BYTES;
     u64::from(segments).min(within) as u32

@@ -13,7 +13,7 @@ use crate::places::{OPEN, PAGE_BYTES, body_at, whole_segments};
 use file_model::{Head, Located, Unreadable};
 use host_model::{DiskFailed, Host};
 
-// The current copy, by the two gates, and whether the other one's gate is open too.
+/// The current copy, by the two gates, and whether the other one's gate is open too.
 fn copies_by(first: bool, second: bool) -> Option<(bool, bool)>
     ensures { result ≡ copies_by first second }
 {
@@ -26,7 +26,7 @@ fn copies_by(first: bool, second: bool) -> Option<(bool, bool)>
     }
 }
 
-// The current copy of the file, and whether the other one's gate is open too.
+/// The current copy of the file, and whether the other one's gate is open too.
 fn read_copies<H: Host>(host: &mut H) -> Result<Option<(bool, bool)>, DiskFailed>
     requires { WhereTold (H.shows host.old).file (λ f. page_size ≤ length f) }
     ensures given { IfOk result (λ copies. WhereTold (H.shows host.old).file (λ f. copies ≡ copies_in (page_of f))) }
@@ -43,7 +43,7 @@ fn read_copies<H: Host>(host: &mut H) -> Result<Option<(bool, bool)>, DiskFailed
     Ok(copies_by(gates[0] == OPEN, gates[512] == OPEN))
 }
 
-// What the body of a copy says.
+/// What the body of a copy says.
 fn read_copy<H: Host>(host: &mut H, second: bool) -> Result<Result<Head, Unreadable>, DiskFailed>
     requires { WhereTold (H.shows host.old).file (λ f. page_size ≤ length f) }
     ensures given { IfOk result (λ head. WhereTold (H.shows host.old).file (λ f. head ≡ head_in (body_in (page_of f) second))) }

@@ -8,7 +8,7 @@ ghost use Rattle.host_model.specs.Tearing.{Tearing};
 
 use host_model::{DiskFailed, Host};
 
-// Writes the bytes from `at` on.
+/// Writes the bytes from `at` on.
 pub(crate) fn put_at<H: Host>(host: &mut H, at: u64, bytes: &[u8]) -> Result<(), DiskFailed>
     requires { WhereTold (H.shows host.old).file (λ f. at ≤ length f) }
     ensures written { OnOk result
@@ -21,7 +21,7 @@ pub(crate) fn put_at<H: Host>(host: &mut H, at: u64, bytes: &[u8]) -> Result<(),
     host.write_at(at, bytes)
 }
 
-// Writes the bytes from `at` on and makes them lasting. From a settled host each image is the file torn in this range.
+/// Writes the bytes from `at` on and makes them lasting. From a settled host each image is the file torn in this range.
 pub(crate) fn put_lasting<H: Host>(host: &mut H, at: u64, bytes: &[u8]) -> Result<(), DiskFailed>
     requires { WhereTold (H.shows host.old).file (λ f. at ≤ length f) }
     ensures written { OnOk result

@@ -7,7 +7,7 @@ ghost use Rattle.host_model.specs.Host.{Rests, CountsRead, MayCountRead};
 ghost use Rattle.host_model.specs.Tearing.{Tearing};
 ghost use Rattle.file_model.specs.Layout.{segment_at, gate_at, unit_at, segment_end, unit_bytes, open_byte, closed_byte};
 ghost use Rattle.file_model.specs.Block.{block_head};
-ghost use Rattle.block_disk.specs.Places.{per_segment};
+ghost use Rattle.file_model.specs.Header.{segment_units};
 ghost use Rattle.block_disk.specs.BlockHeads.{head_of_pair};
 
 use crate::block_head::read_block_head;
@@ -18,10 +18,10 @@ use host_model::{DiskFailed, Host};
 /// Opens the gate of a unit whose segment is whole in the file. `DiskFailed` comes only where the write failed; so it is
 /// with each call of this file.
 pub fn open_gate<H: Host>(host: &mut H, unit: u32) -> Result<(), DiskFailed>
-    requires { WhereTold (H.shows host.old).file (λ f. segment_end per_segment unit ≤ length f) }
+    requires { WhereTold (H.shows host.old).file (λ f. segment_end segment_units unit ≤ length f) }
     ensures written { OnOk result ((H.shows host.new).file
-        ≡ option_map (written_at (gate_at per_segment unit) (open_byte ∷ [])) (H.shows host.old).file) }
-    ensures tearing { Tearing (range (gate_at per_segment unit) 1 ∷ []) (H.shows host.old) (H.shows host.new) }
+        ≡ option_map (written_at (gate_at segment_units unit) (open_byte ∷ [])) (H.shows host.old).file) }
+    ensures tearing { Tearing (range (gate_at segment_units unit) 1 ∷ []) (H.shows host.old) (H.shows host.new) }
     ensures clock { (H.shows host.new).clock ≤ (H.shows host.old).clock + 1 }
     ensures cause { OnErr result (Rose (H.shows host.old).disk_faults (H.shows host.new).disk_faults) }
     ensures ok_faults { OnOk result ((H.shows host.new).disk_faults ≡ (H.shows host.old).disk_faults) }
@@ -31,10 +31,10 @@ pub fn open_gate<H: Host>(host: &mut H, unit: u32) -> Result<(), DiskFailed>
 
 /// Closes the gate of a unit whose segment is whole in the file.
 pub fn close_gate<H: Host>(host: &mut H, unit: u32) -> Result<(), DiskFailed>
-    requires { WhereTold (H.shows host.old).file (λ f. segment_end per_segment unit ≤ length f) }
+    requires { WhereTold (H.shows host.old).file (λ f. segment_end segment_units unit ≤ length f) }
     ensures written { OnOk result ((H.shows host.new).file
-        ≡ option_map (written_at (gate_at per_segment unit) (closed_byte ∷ [])) (H.shows host.old).file) }
-    ensures tearing { Tearing (range (gate_at per_segment unit) 1 ∷ []) (H.shows host.old) (H.shows host.new) }
+        ≡ option_map (written_at (gate_at segment_units unit) (closed_byte ∷ [])) (H.shows host.old).file) }
+    ensures tearing { Tearing (range (gate_at segment_units unit) 1 ∷ []) (H.shows host.old) (H.shows host.new) }
     ensures clock { (H.shows host.new).clock ≤ (H.shows host.old).clock + 1 }
     ensures cause { OnErr result (Rose (H.shows host.old).disk_faults (H.shows host.new).disk_faults) }
     ensures ok_faults { OnOk result ((H.shows host.new).disk_faults ≡ (H.shows host.old).disk_faults) }
@@ -44,11 +44,11 @@ pub fn close_gate<H: Host>(host: &mut H, unit: u32) -> Result<(), DiskFailed>
 
 /// Writes a block, head and payload, from a unit on. It ends in the unit's segment, which is whole in the file.
 pub fn write_body<H: Host>(host: &mut H, unit: u32, block: &[u8]) -> Result<(), DiskFailed>
-    requires room { unit_at per_segment unit + length block.now ≤ segment_end per_segment unit }
-    requires whole { WhereTold (H.shows host.old).file (λ f. segment_end per_segment unit ≤ length f) }
+    requires room { unit_at segment_units unit + length block.now ≤ segment_end segment_units unit }
+    requires whole { WhereTold (H.shows host.old).file (λ f. segment_end segment_units unit ≤ length f) }
     ensures written { OnOk result ((H.shows host.new).file
-        ≡ option_map (written_at (unit_at per_segment unit) block.now) (H.shows host.old).file) }
-    ensures tearing { Tearing (range (unit_at per_segment unit) (length block.now) ∷ []) (H.shows host.old) (H.shows host.new) }
+        ≡ option_map (written_at (unit_at segment_units unit) block.now) (H.shows host.old).file) }
+    ensures tearing { Tearing (range (unit_at segment_units unit) (length block.now) ∷ []) (H.shows host.old) (H.shows host.new) }
     ensures clock { (H.shows host.new).clock ≤ (H.shows host.old).clock + 1 }
     ensures cause { OnErr result (Rose (H.shows host.old).disk_faults (H.shows host.new).disk_faults) }
     ensures ok_faults { OnOk result ((H.shows host.new).disk_faults ≡ (H.shows host.old).disk_faults) }
@@ -62,9 +62,9 @@ pub fn read_gates<H: Host>(
     segment: u32,
     gates: &mut [u8; 4096],
 ) -> Result<(), DiskFailed>
-    requires { WhereTold (H.shows host.old).file (λ f. segment_at per_segment (segment + 1) ≤ length f) }
+    requires { WhereTold (H.shows host.old).file (λ f. segment_at segment_units (segment + 1) ≤ length f) }
     ensures given { OnOk result (WhereTold (H.shows host.old).file (λ f. gates.new
-        ≡ slice_range f (segment_at per_segment segment) (segment_at per_segment segment + per_segment))) }
+        ≡ slice_range f (segment_at segment_units segment) (segment_at segment_units segment + segment_units))) }
     ensures rests { Rests (H.shows host.old) (H.shows host.new) }
     ensures counted { OnOk result (CountsRead (H.shows host.old) (H.shows host.new)) }
     ensures reads { OnErr result (MayCountRead (H.shows host.old) (H.shows host.new)) }
@@ -78,9 +78,9 @@ pub fn read_gates<H: Host>(
 
 /// Reads the head of a block: its exponent and the length of its payload. None just where it is not well formed.
 pub fn read_head<H: Host>(host: &mut H, unit: u32) -> Result<Option<(u8, u32)>, DiskFailed>
-    requires { WhereTold (H.shows host.old).file (λ f. segment_end per_segment unit ≤ length f) }
+    requires { WhereTold (H.shows host.old).file (λ f. segment_end segment_units unit ≤ length f) }
     ensures given { IfOk result (λ head. WhereTold (H.shows host.old).file (λ f.
-        option_map head_of_pair head ≡ block_head per_segment (take head_size (unit_bytes per_segment f unit)))) }
+        option_map head_of_pair head ≡ block_head segment_units (take head_size (unit_bytes segment_units f unit)))) }
     ensures rests { Rests (H.shows host.old) (H.shows host.new) }
     ensures counted { OnOk result (CountsRead (H.shows host.old) (H.shows host.new)) }
     ensures reads { OnErr result (MayCountRead (H.shows host.old) (H.shows host.new)) }
@@ -96,10 +96,10 @@ pub fn read_head<H: Host>(host: &mut H, unit: u32) -> Result<Option<(u8, u32)>, 
 
 /// Fills the buffer with the payload of a block, which ends in its unit's segment.
 pub fn read_payload<H: Host>(host: &mut H, unit: u32, payload: &mut [u8]) -> Result<(), DiskFailed>
-    requires room { unit_at per_segment unit + head_size + length payload.old ≤ segment_end per_segment unit }
-    requires whole { WhereTold (H.shows host.old).file (λ f. segment_end per_segment unit ≤ length f) }
+    requires room { unit_at segment_units unit + head_size + length payload.old ≤ segment_end segment_units unit }
+    requires whole { WhereTold (H.shows host.old).file (λ f. segment_end segment_units unit ≤ length f) }
     ensures given { OnOk result (WhereTold (H.shows host.old).file (λ f. payload.new
-        ≡ take (length payload.old) (drop head_size (unit_bytes per_segment f unit)))) }
+        ≡ take (length payload.old) (drop head_size (unit_bytes segment_units f unit)))) }
     ensures rests { Rests (H.shows host.old) (H.shows host.new) }
     ensures counted { OnOk result (CountsRead (H.shows host.old) (H.shows host.new)) }
     ensures reads { OnErr result (MayCountRead (H.shows host.old) (H.shows host.new)) }

@@ -6,10 +6,10 @@ ghost use Rattle.block_disk.specs.Zeroed.{zeros, zero_pages};
 use crate::places::PAGE_BYTES;
 use host_model::Writes;
 
-// A segment has one page for its gates and 64 for its units.
+/// A segment has one page for its gates and 64 for its units.
 const PAGES: usize = 65;
 
-// Pages of zeros from a place on.
+/// Pages of zeros from a place on.
 #[derive(Drop)]
 pub(crate) struct ZeroPages {
     at: u64,

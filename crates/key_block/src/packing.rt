@@ -1,13 +1,14 @@
 //! From the objects of a key to the bytes of a block.
-ghost use Rattle.std.specs.Prelude.{◌≡◌, ◌<◌, ◌≤◌, length, IfOk, OnOk, IsErrOf, IsSome};
+ghost use Rattle.std.specs.Prelude.{◌≡◌, ◌<◌, ◌≤◌, ◌-◌, length, IfOk, OnOk, IsErrOf, IsSome};
 ghost use Rattle.dets_term.specs.Parts.{deepest};
+ghost use Rattle.space_model.specs.Sizes.{head_size};
 ghost use Rattle.space_model.specs.Ledger.{exponent};
+ghost use Rattle.file_model.specs.Layout.{run_size};
 ghost use Rattle.file_model.specs.Block.{one_key};
-ghost use Rattle.file_model.specs.BodyWrites.{head_bytes};
 ghost use Rattle.file_model.specs.Packing.{payload_of, MayPack, IsBlockOf};
 
 use crate::{Objects, PackFault, Packed};
-use byteorder::{BigEndian, ByteOrder};
+use block_disk::head_bytes;
 use dets_term::{ByteList, Kind};
 use etf_codec::encode_list_behind;
 use space_model::ledger_laws::a_payload_has_room_in_the_least_block;
@@ -68,6 +69,7 @@ fn exponent(length: usize) -> u8
     requires { length ≤ MAX_PAYLOAD }
     ensures value { result ≡ exponent length }
     ensures within { result ≤ LARGEST }
+    ensures room { length ≤ run_size result - head_size }
 {
     a_payload_has_room_in_the_least_block();
     for exp in 0..LARGEST {
@@ -76,13 +78,4 @@ fn exponent(length: usize) -> u8
         }
     }
     LARGEST
-}
-
-/// The head of a block with a payload of so many bytes.
-fn head_bytes(exp: u8, length: u32) -> [u8; HEAD_SIZE]
-    ensures { result ≡ head_bytes exp length }
-{
-    let mut head = [exp, 0, 0, 0, 0, 0, 0, 0];
-    BigEndian::write_u32(&mut head[4..], length);
-    head
 }

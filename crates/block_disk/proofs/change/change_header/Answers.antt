@@ -4,7 +4,7 @@ use Rattle.host_model.specs.Tearing.{told_before}
 use Rattle.file_model.specs.declared.head.Located.{Located}
 use Rattle.file_model.specs.declared.head.Unreadable.{Unreadable}
 use Rattle.file_model.specs.Layout.{segments_within}
-use Rattle.block_disk.specs.Places.{per_segment}
+use Rattle.file_model.specs.Header.{segment_units}
 use Rattle.block_disk.specs.Copies.{IsCurrent}
 use Rattle.block_disk.proofs.Current.{stands_located, located_current, length_same}
 use Rattle.block_disk.proofs.Switching.{header_here, either_of}
@@ -36,7 +36,7 @@ returns-clause-found g c y told =
     let stands = stands_located t.0 p (c.requires.place t.0 was) in
     let long = length_same t.0 y stands.page t.2.outside in
     let size = c.in_ok-len.ensures.length t.0 was in
-    let whole = c.whole_segments.ensures ∙ ap (λ n. min next.segments (segments_within per_segment n)) (size ∙ sym long) in
+    let whole = c.whole_segments.ensures ∙ ap (λ n. min next.segments (segments_within segment_units n)) (size ∙ sym long) in
     let made : Located → Result Located Unreadable = λ l. Ok l in
     located_current (not p.second) next y t.2.stands
     ∙ sym (ap (λ w. made (record { head = next; second = not p.second; other_gate = false; whole = w })) whole)

@@ -5,7 +5,7 @@ use Rattle.file_model.specs.declared.head.Located.{Located}
 use Rattle.file_model.specs.declared.head.Unreadable.{Unreadable}
 use Rattle.file_model.specs.Layout.{page_of, segments_within}
 use Rattle.block_disk.specs.declared.fault.HeadFault.{HeadFault}
-use Rattle.block_disk.specs.Places.{per_segment}
+use Rattle.file_model.specs.Header.{segment_units}
 use Rattle.block_disk.specs.Answer.{fault_of, answer_for}
 use Rattle.block_disk.proofs.Pages.{located_long, located_short, found_by, found_in}
 use Rattle.block_disk.proofs.reading.read_header.Goals as goal
@@ -42,7 +42,7 @@ returns-clause-found g c f told =
     let copies = c.in_ok-second.ensures.given f (c.len.ensures.rests.file ∙ told) in
     let head = c.in_ok-read_copy.ensures.given f (c.read_copies.ensures.rests.file ∙ c.len.ensures.rests.file ∙ told) in
     let h = c.in_ok-head.head in
-    let whole = c.whole_segments.ensures ∙ ap (λ n. min h.segments (segments_within per_segment n)) size in
+    let whole = c.whole_segments.ensures ∙ ap (λ n. min h.segments (segments_within segment_units n)) size in
     let made : Located → Result Located Unreadable = λ l. Ok l in
     located_long f (omega arith) ∙ ap (found_by (page_of f) (length f)) (sym copies ∙ c.in-Some.is)
     ∙ ap (found_in c.in-Some.second c.in-Some.other_gate (length f)) (sym head ∙ c.in_ok-head.was)

@@ -3,7 +3,7 @@ use Rattle.std.proofs.lemmas.Result.{on_ok_weaker}
 use Rattle.host_model.specs.Disk.{range, DiffersIn, written_at}
 use Rattle.host_model.specs.Writes.{ranges_of}
 use Rattle.file_model.specs.Layout.{page_size, segment_at}
-use Rattle.block_disk.specs.Places.{per_segment}
+use Rattle.file_model.specs.Header.{segment_units}
 use Rattle.block_disk.specs.Zeroed.{zeros, zero_pages}
 use Rattle.block_disk.proofs.Wider.{tearing_wider}
 use Rattle.block_disk.proofs.Zeroing.{how_many, begin_inside, file_zeroed, in_one_range}
@@ -27,7 +27,7 @@ pub returns-clause-tearing : goal.returns-clause-tearing
 returns-clause-tearing g c =
     let at = c.from_place.result.at in
     let same = c.from_place.ensures ∙ c.segment_at.ensures in
-    tearing_wider (ranges_of (zero_pages page_size at 65)) (range (segment_at per_segment c.args.segment) 266240 ∷ [])
+    tearing_wider (ranges_of (zero_pages page_size at 65)) (range (segment_at segment_units c.args.segment) 266240 ∷ [])
     (g.H.Host.shows c.args.host.now) (g.H.Host.shows c.write_all.new.host)
     (λ a b d. subst (λ x. DiffersIn (range x 266240 ∷ []) a b) same (in_one_range page_size at 65 a b d)) c.write_all.ensures.tearing
 
