@@ -10,6 +10,7 @@ use crate::{
     FileState, Head, Located, change_header, close_gate, head_bytes, make, open_gate, read_gates,
     read_head, read_header, read_payload, write_body, zero_segment,
 };
+use host_model::laws::a_settled_host_stays_settled;
 use host_model::{FileHost, Host, MemHost, Memory, Pick};
 use std::alloc::Global;
 use std::fs;
@@ -104,12 +105,27 @@ fn changes_twice(alloc: Global) -> Result<Option<MemHost>, Memory> {
     }
 }
 
+// Changes the header of a file in which both gates are open.
+fn changes_with_both_gates(alloc: Global, host: &mut MemHost) -> Result<bool, Memory>
+    requires { Settled (shown_of host.old) }
+{
+    a_settled_host_stays_settled::<MemHost>();
+    match read_header(host) {
+        Ok(mut place) if place.other_gate => changes(alloc, host, &mut place, DIRTY),
+        _ => Ok(false),
+    }
+}
+
 #[test]
 fn a_header_change_stopped_at_each_moment_reads_back(rt: HostRuntime) -> Result<(), Fail> {
     let Some(host) = changes_twice(rt.alloc())? else {
         panic!(rt; "the headers were not changed")
     };
+    // Both gates are open before the last write of the first change.
     assert_eq!(rt; host.moments(), 16);
+    let mut both = host.restart(rt.alloc(), 8, Pick::Old)?;
+    assert!(rt; changes_with_both_gates(rt.alloc(), &mut both)?);
+    assert_eq!(rt; both.moments(), 8);
     Ok(())
 }
 
