@@ -3,9 +3,8 @@ use Rattle.std.specs.Prelude.{◌≡◌, ◌≤◌, ◌⊎◌, ℕ, ◌+◌, Boo
 use Rattle.host_model.specs.Disk.{DiffersIn}
 use Rattle.host_model.specs.Host.{Shown}
 use Rattle.file_model.specs.declared.head.Head.{Head}
-use Rattle.file_model.specs.declared.head.Located.{Located}
 use Rattle.file_model.specs.Layout.{page_size, copy_at, body_at, body_size, is_open_at}
-use Rattle.file_model.specs.Header.{head_in, head_of, located}
+use Rattle.file_model.specs.Header.{head_in, head_of}
 use Rattle.block_disk.specs.Places.{the_page}
 
 -- ---- what holds of a file, or of an image of it
