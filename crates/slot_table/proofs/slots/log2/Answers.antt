@@ -1,4 +1,4 @@
-use Rattle.std.proofs.Common.{◌≡◌, ◌∙◌, arith}
+use Rattle.std.proofs.Common.{arith}
 use Rattle.space_model.specs.Least.{log2}
 use Rattle.slot_table.proofs.Powers.{exponent_from_zeros}
 use Rattle.slot_table.proofs.slots.log2.Goals as goal
