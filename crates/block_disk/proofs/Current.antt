@@ -10,7 +10,8 @@ use Rattle.file_model.specs.declared.head.Located.{Located}
 use Rattle.file_model.specs.declared.head.Unreadable.{Unreadable}
 use Rattle.file_model.specs.declared.head.Unreadable.TheVariants.{NotDets}
 use Rattle.file_model.specs.Layout.{page_size, copy_at, is_open_at, page_of, segments_within}
-use Rattle.file_model.specs.Header.{segment_units, body_in, head_in, head_of_copy, head_of, located}
+use Rattle.file_model.specs.Header.{body_in, head_in, head_of_copy, head_of, located}
+use Rattle.space_model.specs.Sizes.{segment_units}
 use Rattle.block_disk.specs.Places.{the_page}
 use Rattle.block_disk.specs.Answer.{copies_by}
 use Rattle.block_disk.specs.Copies.{is_open_copy, copy_body, Stands}

@@ -5,11 +5,10 @@ use Rattle.std.proofs.Math.Pow.{pow_mono}
 use Rattle.std.proofs.lemmas.Bool.{le-leb, lt-leb}
 use Rattle.byteorder.specs.Endian.{big_number, big_bytes}
 use Rattle.byteorder.specs.Numbers.{big_number-reads_back}
-use Rattle.space_model.specs.Sizes.{head_size}
+use Rattle.space_model.specs.Sizes.{head_size, segment_units}
 use Rattle.file_model.specs.Layout.{run_size}
 use Rattle.file_model.specs.Block.{is_well_formed, if_well_formed, block_head}
 use Rattle.file_model.specs.BodyWrites.{head_bytes}
-use Rattle.file_model.specs.Header.{segment_units}
 
 -- eight bytes by their places
 pub block_head_at : (xs : List ℕ) → length xs ≡ 8

@@ -11,7 +11,7 @@ use Rattle.file_model.specs.declared.head.Located.{Located}
 use Rattle.file_model.specs.declared.head.Unreadable.{Unreadable}
 use Rattle.file_model.specs.Layout.{page_size, open_byte, segments_within}
 use Rattle.file_model.specs.Header.{body_of, head_in, located}
-use Rattle.file_model.specs.Header.{segment_units}
+use Rattle.space_model.specs.Sizes.{segment_units}
 use Rattle.block_disk.specs.Copies.{is_open_copy, Stands}
 use Rattle.block_disk.specs.Zeroed.{zeros, made_page}
 use Rattle.block_disk.proofs.CopiesTorn.{gate_written, body_written}

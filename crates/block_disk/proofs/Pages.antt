@@ -10,7 +10,7 @@ use Rattle.file_model.specs.declared.head.Unreadable.{Unreadable}
 use Rattle.file_model.specs.declared.head.Unreadable.TheVariants.{NotDets}
 use Rattle.file_model.specs.Layout.{page_size, copy_at, body_at, body_size, open_byte, is_open_at, page_of, segments_within}
 use Rattle.file_model.specs.Header.{current_copy, body_in, head_in, head_of_copy, head_of_page, head_of, located_at, located}
-use Rattle.file_model.specs.Header.{segment_units}
+use Rattle.space_model.specs.Sizes.{segment_units}
 use Rattle.block_disk.specs.Answer.{copies_by, copies_in}
 
 -- ---- a part of a front is a part of the whole

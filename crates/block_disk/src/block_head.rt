@@ -1,10 +1,9 @@
 //! The head of a block: eight bytes.
 ghost use Rattle.std.specs.Prelude.{◌≡◌, ◌≤◌, ◌-◌, ◌==◌, ◌&&◌, slice_index, Some, option_map};
-ghost use Rattle.space_model.specs.Sizes.{head_size};
+ghost use Rattle.space_model.specs.Sizes.{head_size, segment_units};
 ghost use Rattle.file_model.specs.Layout.{run_size};
 ghost use Rattle.file_model.specs.Block.{is_well_formed, block_head};
 ghost use Rattle.file_model.specs.BodyWrites.{head_bytes};
-ghost use Rattle.file_model.specs.Header.{segment_units};
 ghost use Rattle.block_disk.specs.BlockHeads.{head_of_pair};
 
 use byteorder::{BigEndian, ByteOrder};

@@ -1,7 +1,7 @@
 //! Where the parts of a file stand: the layout of `file_model`, computed.
 ghost use Rattle.std.specs.Prelude.{◌≡◌, min};
 ghost use Rattle.file_model.specs.Layout.{copy_at, body_at, segment_at, gate_at, unit_at, segments_within};
-ghost use Rattle.file_model.specs.Header.{segment_units};
+ghost use Rattle.space_model.specs.Sizes.{segment_units};
 
 /// An open gate and a closed one.
 pub(crate) const OPEN: u8 = 165;

@@ -4,7 +4,7 @@ ghost use Rattle.host_model.specs.Counts.{Rose};
 ghost use Rattle.host_model.specs.Disk.{written_at, range, WhereTold};
 ghost use Rattle.host_model.specs.Tearing.{Tearing};
 ghost use Rattle.file_model.specs.Layout.{segment_at, segment_size};
-ghost use Rattle.file_model.specs.Header.{segment_units};
+ghost use Rattle.space_model.specs.Sizes.{segment_units};
 ghost use Rattle.block_disk.specs.Zeroed.{zeros};
 
 use crate::places::segment_at;

@@ -1,13 +1,12 @@
 //! The gates and blocks of units: what is read of them, and the single writes.
 ghost use Rattle.std.specs.Prelude.{◌≡◌, ◌≤◌, ◌+◌, ◌∷◌, [], length, take, drop, slice_range, option_map, IfOk, OnOk, OnErr};
-ghost use Rattle.space_model.specs.Sizes.{head_size};
+ghost use Rattle.space_model.specs.Sizes.{head_size, segment_units};
 ghost use Rattle.host_model.specs.Counts.{Rose};
 ghost use Rattle.host_model.specs.Disk.{written_at, range, WhereTold};
 ghost use Rattle.host_model.specs.Host.{Rests, CountsRead, MayCountRead};
 ghost use Rattle.host_model.specs.Tearing.{Tearing};
 ghost use Rattle.file_model.specs.Layout.{segment_at, gate_at, unit_at, segment_end, unit_bytes, open_byte, closed_byte};
 ghost use Rattle.file_model.specs.Block.{block_head};
-ghost use Rattle.file_model.specs.Header.{segment_units};
 ghost use Rattle.block_disk.specs.BlockHeads.{head_of_pair};
 
 use crate::block_head::read_block_head;

@@ -89,6 +89,13 @@ impl ByteList {
         self.bytes.get(place).copied()
     }
 
+    /// The bytes in order, taken out of the list.
+    pub fn into_vec(self) -> Vec<u8>
+        ensures { result.items ≡ self }
+    {
+        self.bytes
+    }
+
     /// All bytes in order.
     pub fn as_slice(&self) -> &[u8]
         ensures { result.now ≡ self.now }

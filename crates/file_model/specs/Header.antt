@@ -4,6 +4,7 @@ use Rattle.std.specs.Prelude.{replicate, slice_index, slice_range, Option, Some,
 use Rattle.std.specs.List.{list_all}
 use Rattle.std.specs.Str.{bytes_eq}
 use Rattle.byteorder.specs.Endian.{big_number, big_bytes}
+use Rattle.space_model.specs.Sizes.{segment_units}
 use Rattle.term_model.specs.declared.kind.Kind.{Kind}
 use Rattle.term_model.specs.declared.kind.Kind.TheVariants.{Set, Bag, DuplicateBag}
 use Rattle.file_model.specs.declared.head.Head.{Head}
@@ -19,9 +20,6 @@ abbrev pub the_version : ℕ
 the_version = 1
 
 -- the units of a segment; every file has the same number
-abbrev pub segment_units : ℕ
-segment_units = 4096
-
 abbrev pub units_per_segment : Head → ℕ
 units_per_segment h = segment_units
 

@@ -1,6 +1,6 @@
 use Rattle.std.proofs.Common.{List, ℕ, [], ◌∷◌, ◌++◌, ap, ◌∙◌}
 use Rattle.file_model.specs.Block.{block_head}
-use Rattle.file_model.specs.Header.{segment_units}
+use Rattle.space_model.specs.Sizes.{segment_units}
 use Rattle.block_disk.proofs.Heads.{head_back}
 use Rattle.block_disk.proofs.block_head.head_bytes.Goals as goal
 

@@ -4,7 +4,7 @@ use Rattle.host_model.specs.Tearing.{told_before}
 use Rattle.file_model.specs.declared.head.Located.{Located}
 use Rattle.file_model.specs.declared.head.Unreadable.{Unreadable}
 use Rattle.file_model.specs.Layout.{segments_within}
-use Rattle.file_model.specs.Header.{segment_units}
+use Rattle.space_model.specs.Sizes.{segment_units}
 use Rattle.block_disk.specs.Copies.{IsCurrent}
 use Rattle.block_disk.proofs.Current.{stands_located, located_current, length_same}
 use Rattle.block_disk.proofs.Switching.{header_here, either_of}

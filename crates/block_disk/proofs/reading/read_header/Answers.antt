@@ -5,7 +5,7 @@ use Rattle.file_model.specs.declared.head.Located.{Located}
 use Rattle.file_model.specs.declared.head.Unreadable.{Unreadable}
 use Rattle.file_model.specs.Layout.{page_of, segments_within}
 use Rattle.block_disk.specs.declared.fault.HeadFault.{HeadFault}
-use Rattle.file_model.specs.Header.{segment_units}
+use Rattle.space_model.specs.Sizes.{segment_units}
 use Rattle.block_disk.specs.Answer.{fault_of, answer_for}
 use Rattle.block_disk.proofs.Pages.{located_long, located_short, found_by, found_in}
 use Rattle.block_disk.proofs.reading.read_header.Goals as goal

@@ -3,7 +3,7 @@ use Rattle.std.proofs.lemmas.Result.{on_ok_weaker}
 use Rattle.host_model.specs.Disk.{range, DiffersIn, written_at}
 use Rattle.host_model.specs.Writes.{ranges_of}
 use Rattle.file_model.specs.Layout.{page_size, segment_at}
-use Rattle.file_model.specs.Header.{segment_units}
+use Rattle.space_model.specs.Sizes.{segment_units}
 use Rattle.block_disk.specs.Zeroed.{zeros, zero_pages}
 use Rattle.block_disk.proofs.Wider.{tearing_wider}
 use Rattle.block_disk.proofs.Zeroing.{how_many, begin_inside, file_zeroed, in_one_range}

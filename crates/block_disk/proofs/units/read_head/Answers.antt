@@ -1,7 +1,7 @@
 use Rattle.std.proofs.Common.{◌+◌, slice_range, arith, ap, ◌∙◌}
 use Rattle.file_model.specs.LayoutLaws.{in_segment}
 use Rattle.file_model.specs.Block.{block_head}
-use Rattle.file_model.specs.Header.{segment_units}
+use Rattle.space_model.specs.Sizes.{segment_units}
 use Rattle.block_disk.proofs.Parts.{front_of_unit}
 use Rattle.block_disk.proofs.units.read_head.Goals as goal
 

@@ -1,6 +1,6 @@
 use Rattle.std.proofs.Common.{◌+◌, length, slice_range, ap, ◌∙◌}
 use Rattle.std.proofs.lemmas.Result.{on_ok_weaker}
-use Rattle.file_model.specs.Header.{segment_units}
+use Rattle.space_model.specs.Sizes.{segment_units}
 use Rattle.block_disk.proofs.Parts.{part_of_unit}
 use Rattle.block_disk.proofs.units.read_payload.Goals as goal
 
