@@ -1,0 +1,1 @@
+//! Laws of pending states, as contracts of functions that do nothing.

@@ -1,0 +1,1 @@
+//! What no clause says: that a call succeeds where memory is there.
