@@ -1,0 +1,5 @@
+-- Lemmas that several proofs share.
+pub mod Keys
+pub mod Seen
+pub mod Totals
+pub mod Exits
