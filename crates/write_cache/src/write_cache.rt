@@ -46,6 +46,7 @@ impl WriteCache {
         ensures distinct { HasDistinctKeys self.new }
     {
         let length = state.block_length() as u128;
+        // its clauses bound the number of keys, and so the total
         let _count = self.states.len();
         let with_both = self.total + length;
         let old = self.states.insert(key.into_vec(), state)?;
