@@ -1,5 +1,5 @@
 -- The ledger's pending list of keys with their states.
-use Rattle.std.proofs.Common.{◌≡◌, ◌≤◌, ◌<◌, ◌⊎◌, ⊎_elim, ℕ, ◌+◌, ◌-◌, ◌^◌, Bool, true, false, cond, List, [], ◌∷◌, map, length, Option, Some, None, is_some, refl, sym, ap, ◌∙◌, subst, arith, suc}
+use Rattle.std.proofs.Common.{◌≡◌, ◌≤◌, ◌<◌, ⊎_elim, ℕ, ◌-◌, ◌^◌, Bool, true, false, cond, List, [], ◌∷◌, length, Option, Some, None, is_some, refl, sym, ap, ◌∙◌, subst, arith, suc}
 use Rattle.std.specs.Prelude.{◌||◌, nat_le, min, bytes_eq, sum_by, IfSome, option_map, option_and_then}
 use Rattle.std.specs.List.{IsDistinct, AllByRecursion}
 use Rattle.std.proofs.lemmas.Bool.{le-leb, cases_lt}
@@ -10,7 +10,7 @@ use Rattle.space_model.specs.Ledger.{Ledger, Packed as Payload, Pending as Ledge
 use Rattle.space_model.specs.LedgerOrder.{OtherPending, pending_keys}
 use Rattle.file_model.specs.declared.block.Packed.{Packed}
 use Rattle.write_cache.specs.declared.pending.Pending.{Pending}
-use Rattle.write_cache.specs.PendingState.{length_of, block_length, payload_at, in_ledger, HasHead}
+use Rattle.write_cache.specs.PendingState.{length_of, payload_at, in_ledger, HasHead}
 use Rattle.write_cache.specs.Waiting.{Waiting, keys_of, state_of, with_state, bytes_of, ledger_of, HasDistinctKeys, HaveHeads}
 use Rattle.write_cache.proofs.Keys.{same_key}
 use Rattle.write_cache.proofs.Totals.{bytes_of-cons}

@@ -1,6 +1,6 @@
 -- Keys with their pending states, in the order of first touch. A key is the bytes of its canonical spelling. This project's
 -- own.
-use Rattle.std.specs.Prelude.{◌≡◌, ◌<◌, ◌^◌, ℕ, Bool, cond, List, [], ◌∷◌, map, sum_by, bytes_eq, Option, Some, None}
+use Rattle.std.specs.Prelude.{◌≡◌, ◌<◌, ◌^◌, ℕ, cond, List, [], ◌∷◌, map, sum_by, bytes_eq, Option, Some, None}
 use Rattle.std.specs.List.{IsDistinct, AllByRecursion}
 use Rattle.space_model.specs.Ledger.{Pending as LedgerPending}
 use Rattle.write_cache.specs.declared.pending.Pending.{Pending}

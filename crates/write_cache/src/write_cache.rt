@@ -1,6 +1,7 @@
 //! The pending states of keys.
 ghost use Rattle.std.specs.Prelude.{◌≡◌, ◌-◌, ◌^◌, min, [], length, OnOk, OnErr, None, slice_get};
 ghost use Rattle.std.specs.Option.{option_copied};
+ghost use Rattle.write_cache.specs.PendingState.{old_length};
 ghost use Rattle.write_cache.specs.Waiting.{with_state, state_of, states_of, bytes_of, HasDistinctKeys};
 
 use crate::{Memory, Pending};
@@ -96,8 +97,6 @@ impl WriteCache {
         self.total = 0;
     }
 }
-
-ghost use Rattle.write_cache.specs.PendingState.{old_length};
 
 /// The bytes of the block that a replaced state had, 0 where none was replaced.
 fn old_length(old: &Option<Pending>) -> usize

@@ -1,5 +1,4 @@
-use Rattle.std.proofs.Common.{sym, ap, ◌∙◌}
-use Rattle.write_cache.specs.Waiting.{state_of}
+use Rattle.std.proofs.Common.{sym, ◌∙◌}
 use Rattle.write_cache.proofs.Seen.{state_of-seen}
 use Rattle.write_cache.proofs.write_cache.WriteCache.get.Goals as goal
 

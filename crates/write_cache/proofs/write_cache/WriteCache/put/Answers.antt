@@ -1,6 +1,6 @@
-use Rattle.std.proofs.Common.{◌≡◌, ◌≤◌, ◌<◌, ◌*◌, ◌^◌, length, ap, sym, ◌∙◌, arith}
+use Rattle.std.proofs.Common.{◌≡◌, ◌<◌, ◌^◌, ap, sym, ◌∙◌, arith}
 use Rattle.write_cache.specs.PendingState.{block_length, old_length}
-use Rattle.write_cache.specs.Waiting.{state_of, bytes_of, seen}
+use Rattle.write_cache.specs.Waiting.{state_of, seen}
 use Rattle.write_cache.proofs.Exits.{on_err}
 use Rattle.write_cache.proofs.Seen.{length-seen, state_of-seen, seen-insert_entry, distinct_seen}
 use Rattle.write_cache.proofs.Totals.{bytes_of-le, bytes_of-with_state, kept-with_state}
