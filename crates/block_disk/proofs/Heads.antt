@@ -1,8 +1,8 @@
 -- The head of a block, in eight bytes.
 use Rattle.std.proofs.Common.{◌≡◌, ◌≤◌, ◌<◌, ◌-◌, ◌^◌, ◌&&◌, ◌==◌, nat_le, ◌∙◌, ℕ, true, false, List, [], ◌∷◌, ◌++◌, length, drop, slice_index}
-use Rattle.std.proofs.Common.{Some, refl, ap, arith}
+use Rattle.std.proofs.Common.{Some, refl, sym, ap, arith, ⊎_elim}
 use Rattle.std.proofs.Math.Pow.{pow_mono}
-use Rattle.std.proofs.lemmas.Bool.{le-leb, lt-leb}
+use Rattle.std.proofs.lemmas.Bool.{le-leb, lt-leb, leb-true, both_ways, cases_lt}
 use Rattle.byteorder.specs.Endian.{big_number, big_bytes}
 use Rattle.byteorder.specs.Numbers.{big_number-reads_back}
 use Rattle.space_model.specs.Sizes.{head_size, segment_units}
@@ -31,6 +31,14 @@ judged_by_length exp count l = rw (le-leb (2 ^ exp) 4096 (no_larger exp l)) refl
 
 pub too_large : (exp count : ℕ) → 12 < exp → is_well_formed segment_units (record { exp = exp; count = count }) ≡ false
 too_large exp count l = rw (lt-leb (2 ^ exp) 4096 (larger exp l)) refl
+
+-- what is well formed is no larger than a segment, and holds its payload
+pub well_formed_fits : (exp count : ℕ) → is_well_formed segment_units (record { exp = exp; count = count }) ≡ true
+    → (exp ≤ 12) × (count ≤ run_size exp - head_size)
+well_formed_fits exp count e = ⊎_elim
+    (λ more. absurd (both_ways _ (too_large exp count more) e))
+    (λ less. (less, leb-true count (run_size exp - head_size) (sym (judged_by_length exp count less) ∙ e)))
+    (cases_lt 12 exp)
 
 pub head_back : (exp count : ℕ) → exp ≤ 12 → count ≤ run_size exp - head_size
     → block_head segment_units (head_bytes exp count) ≡ Some (record { exp = exp; count = count })

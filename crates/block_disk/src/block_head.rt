@@ -1,5 +1,5 @@
 //! The head of a block: eight bytes.
-ghost use Rattle.std.specs.Prelude.{◌≡◌, ◌≤◌, ◌-◌, ◌==◌, ◌&&◌, slice_index, Some, option_map};
+ghost use Rattle.std.specs.Prelude.{◌≡◌, ◌≤◌, ◌-◌, ◌==◌, ◌&&◌, length, take, slice_index, Some, IfSome, option_map};
 ghost use Rattle.space_model.specs.Sizes.{head_size, segment_units};
 ghost use Rattle.file_model.specs.Layout.{run_size};
 ghost use Rattle.file_model.specs.Block.{is_well_formed, block_head};
@@ -47,7 +47,8 @@ fn is_well_formed(exp: u8, length: u32) -> bool
 
 /// The exponent and the length of the payload, where the head is well formed.
 pub(crate) fn read_block_head(head: &[u8; 8]) -> Option<(u8, u32)>
-    ensures { option_map head_of_pair result ≡ block_head segment_units head.now }
+    ensures given { option_map head_of_pair result ≡ block_head segment_units head.now }
+    ensures well_formed { IfSome result (λ p. (p.0 ≤ 12) × (p.1 ≤ run_size p.0 - head_size)) }
 {
     let exp = head[0];
     let length = BigEndian::read_u32(&head[4..]);
@@ -56,4 +57,16 @@ pub(crate) fn read_block_head(head: &[u8; 8]) -> Option<(u8, u32)>
     } else {
         None
     }
+}
+
+/// The head of the block whose bytes these are: its exponent and the length of its payload. None just where it is not well
+/// formed.
+pub fn head_in(bytes: &[u8]) -> Option<(u8, u32)>
+    requires { head_size ≤ length bytes.now }
+    ensures given { option_map head_of_pair result ≡ block_head segment_units (take head_size bytes.now) }
+    ensures well_formed { IfSome result (λ p. (p.0 ≤ 12) × (p.1 ≤ run_size p.0 - head_size)) }
+{
+    let mut head = [0; 8];
+    head.copy_from_slice(&bytes[..8]);
+    read_block_head(&head)
 }

@@ -18,14 +18,17 @@ mod step;
 mod units;
 mod zero_pages;
 
-pub use block_head::head_bytes;
+pub use block_head::{head_bytes, head_in};
 pub use change::change_header;
 pub use fault::HeadFault;
 pub use file_model::{FileState, Head, Located, Packed, Unreadable};
 pub use making::make;
+pub use places::{CLOSED, OPEN, gate_at};
 pub use reading::read_header;
 pub use segment::zero_segment;
-pub use units::{close_gate, open_gate, read_gates, read_head, read_payload, write_body};
+pub use units::{
+    close_gate, open_gate, read_gates, read_head, read_payload, read_units, write_body,
+};
 
 #[cfg(test)]
 mod tests;

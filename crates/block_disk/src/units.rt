@@ -1,6 +1,6 @@
 //! The gates and blocks of units: what is read of them, and the single writes.
-ghost use Rattle.std.specs.Prelude.{◌≡◌, ◌≤◌, ◌+◌, ◌∷◌, [], length, take, drop, slice_range, option_map, IfOk, OnOk, OnErr};
-ghost use Rattle.space_model.specs.Sizes.{head_size, segment_units};
+ghost use Rattle.std.specs.Prelude.{◌≡◌, ◌≤◌, ◌+◌, ◌*◌, ◌∷◌, [], length, take, drop, slice_range, option_map, IfOk, OnOk, OnErr};
+ghost use Rattle.space_model.specs.Sizes.{unit_size, head_size, segment_units};
 ghost use Rattle.host_model.specs.Counts.{Rose};
 ghost use Rattle.host_model.specs.Disk.{written_at, range, WhereTold};
 ghost use Rattle.host_model.specs.Host.{Rests, CountsRead, MayCountRead};
@@ -10,7 +10,7 @@ ghost use Rattle.file_model.specs.Block.{block_head};
 ghost use Rattle.block_disk.specs.BlockHeads.{head_of_pair};
 
 use crate::block_head::read_block_head;
-use crate::places::{CLOSED, OPEN, gate_at, segment_at, unit_at};
+use crate::places::{CLOSED, OPEN, gate_at, segment_at, unit_at, units_at};
 use crate::step::put_at;
 use host_model::{DiskFailed, Host};
 
@@ -73,6 +73,23 @@ pub fn read_gates<H: Host>(
     ensures out_faults { (H.shows host.new).out_faults ≡ (H.shows host.old).out_faults }
 {
     host.read_at(segment_at(segment), gates)
+}
+
+/// Fills the buffer with all units of a segment that is whole in the file.
+pub fn read_units<H: Host>(host: &mut H, segment: u32, units: &mut [u8]) -> Result<(), DiskFailed>
+    requires all { length units.old ≡ unit_size * segment_units }
+    requires whole { WhereTold (H.shows host.old).file (λ f. segment_at segment_units (segment + 1) ≤ length f) }
+    ensures given { OnOk result (WhereTold (H.shows host.old).file (λ f. units.new
+        ≡ slice_range f (segment_at segment_units segment + segment_units) (segment_at segment_units (segment + 1)))) }
+    ensures rests { Rests (H.shows host.old) (H.shows host.new) }
+    ensures counted { OnOk result (CountsRead (H.shows host.old) (H.shows host.new)) }
+    ensures reads { OnErr result (MayCountRead (H.shows host.old) (H.shows host.new)) }
+    ensures cause { OnErr result (Rose (H.shows host.old).disk_faults (H.shows host.new).disk_faults) }
+    ensures ok_faults { OnOk result ((H.shows host.new).disk_faults ≡ (H.shows host.old).disk_faults) }
+    ensures never_falls { (H.shows host.old).disk_faults ≤ (H.shows host.new).disk_faults }
+    ensures out_faults { (H.shows host.new).out_faults ≡ (H.shows host.old).out_faults }
+{
+    host.read_at(units_at(segment), units)
 }
 
 /// Reads the head of a block: its exponent and the length of its payload. None just where it is not well formed.

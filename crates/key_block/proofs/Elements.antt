@@ -1,6 +1,7 @@
 -- The elements of a proper list, and those of the payload that spells it.
-use Rattle.std.proofs.Common.{◌≡◌, ℕ, true, false, cond, Bool, List, [], ◌∷◌, Result, Ok, Err, Some, refl, sym, ap, ◌∙◌}
+use Rattle.std.proofs.Common.{◌≡◌, ◌<◌, ◌^◌, ℕ, true, false, cond, Bool, List, [], ◌∷◌, length, Result, Ok, Err, Some, refl, sym, ap, ◌∙◌, arith}
 use Rattle.dets_term.specs.TermValue.{TermValue, integer, atom, tuple, mapping, nil, cons, bits, chain, elements, is_list}
+use Rattle.dets_term.specs.IsTerm.{IsTerm, IsBounded}
 use Rattle.dets_term.specs.declared.term.Node.{Node}
 use Rattle.dets_term.specs.declared.term.Node.TheVariants.{Int, Atom, Tuple, Map, List as ListNode, Improper, Bits}
 use Rattle.dets_term.specs.Node.{shown, IsSound}
@@ -46,6 +47,23 @@ other_node (ListNode parts) sound other = absurd (other parts refl)
 other_node (Improper parts tail) sound other =
     refused (chain parts tail.value) (improper_chain parts tail.value (improper_end tail.value sound.1))
 other_node (Bits bytes used) sound other = refl
+
+-- ---- how many there are
+
+few_in : (t : TermValue) → IsBounded t → length (elements t) < 2 ^ 32
+few_in (integer z) b = omega arith
+few_in (atom name) b = omega arith
+few_in (tuple parts) b = omega arith
+few_in (mapping keys values) b = omega arith
+few_in nil b = omega arith
+few_in (cons first rest) b = b.0
+few_in (bits bs) b = omega arith
+
+pub few_elements : (t : TermValue) (parts : List TermValue) → IsTerm t → chain parts nil ≡ t → length parts < 2 ^ 32
+few_elements t parts is e =
+    let same : elements t ≡ parts = ap elements (sym e) ∙ elements-chain parts in
+    let few = few_in t is.bounded in
+    omega (arith, few, ap length same)
 
 -- ---- by the payload
 

@@ -1,5 +1,5 @@
 //! From the payload of a block to the objects of its key.
-ghost use Rattle.std.specs.Prelude.{◌≡◌, cond, Ok, Err};
+ghost use Rattle.std.specs.Prelude.{◌≡◌, ◌<◌, ◌^◌, cond, length, Ok, Err, IfOk};
 ghost use Rattle.etf_model.specs.Canonical.{is_proper};
 ghost use Rattle.dets_term.specs.TermValue.{elements};
 ghost use Rattle.key_block.specs.Unpacking.{IsUnpacking, IsWhole};
@@ -25,7 +25,8 @@ pub fn unpack(
     keypos: u32,
     payload: &[u8],
 ) -> Result<KeyBlock, BlockFault>
-    ensures { IsUnpacking kind keypos payload.now result }
+    ensures answers { IsUnpacking kind keypos payload.now result }
+    ensures few { IfOk result (λ b. length b.objects < 2 ^ 32) }
 {
     let term = whole_term(alloc, payload)?;
     let objects = list_elements(term)?;
@@ -54,8 +55,11 @@ fn whole_term(alloc: Global, payload: &[u8]) -> Result<Term, BlockFault>
 
 /// The elements of a proper list, taken out of it.
 fn list_elements(term: Term) -> Result<Objects, BlockFault>
-    ensures { result ≡ cond (is_proper term) (Ok (elements term)) (Err NotObjects) }
+    ensures elements { result ≡ cond (is_proper term) (Ok (elements term)) (Err NotObjects) }
+    ensures few { IfOk result (λ objects. length objects < 2 ^ 32) }
 {
+    // what holds of every term: fewer than 2^32 parts in each node
+    let _levels = term.depth();
     match term.into_node() {
         Node::List(parts) => Ok(parts),
         _ => Err(BlockFault::NotObjects),

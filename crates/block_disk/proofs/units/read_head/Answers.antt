@@ -8,5 +8,5 @@ use Rattle.block_disk.proofs.units.read_head.Goals as goal
 pub returns-clause-given : goal.returns-clause-given
 returns-clause-given g c f told =
     let s = in_segment segment_units c.args.unit (omega arith) in
-    c.read_block_head.ensures ∙ ap (block_head segment_units) (c.in_ok-read_at.ensures.given f told
+    c.read_block_head.ensures.given ∙ ap (block_head segment_units) (c.in_ok-read_at.ensures.given f told
     ∙ ap (λ at. slice_range f at (at + 8)) c.unit_at.ensures ∙ front_of_unit segment_units c.args.unit 8 f (omega (arith, s.unit_ends)))

@@ -3,9 +3,9 @@ use Rattle.key_block.proofs.Elements.{listed}
 use Rattle.key_block.proofs.Allowing.{allowed}
 use Rattle.key_block.proofs.unpacking.unpack.Goals as goal
 
-pub returns : goal.returns
-returns c =
-    let found = listed c.args.payload.now c.in_ok-term.term c.in_ok-objects.objects c.in_ok-term.ensures c.in_ok-objects.ensures in (
+pub returns-clause-answers : goal.returns-clause-answers
+returns-clause-answers c =
+    let found = listed c.args.payload.now c.in_ok-term.term c.in_ok-objects.objects c.in_ok-term.ensures c.in_ok-objects.ensures.elements in (
       found.list,
       allowed c.args.kind c.args.keypos c.in_ok-objects.objects (record {
         objects = sym c.if-not-are_objects.ensures;
