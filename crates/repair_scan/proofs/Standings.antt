@@ -1,0 +1,50 @@
+-- What stands at a unit, by its head and by the objects of its payload.
+use Rattle.std.proofs.Common.{◌≡◌, ◌%◌, ◌^◌, ℕ, Bool, List, length, take, Option, Some, None, Ok, Err, ap, sym, ◌∙◌, cond, refl}
+use Rattle.std.proofs.lemmas.Bool.{eq-eqb, ne_eqb}
+use Rattle.term_model.specs.TermValue.{TermValue}
+use Rattle.term_model.specs.IsTerm.{IsTerm}
+use Rattle.term_model.specs.declared.kind.Kind.{Kind}
+use Rattle.term_model.specs.Hash.{hash_of}
+use Rattle.etf_model.specs.Canonical.{spelled}
+use Rattle.space_model.specs.Sizes.{head_size, segment_units}
+use Rattle.file_model.specs.declared.reject.Reason.TheVariants.{BadHead, NotAligned}
+use Rattle.file_model.specs.Block.{Standing, BlockHead, block_head, block_with, block_of, proper_elements, term_in, payload_in, standing_with, standing}
+use Rattle.file_model.specs.Taken.{key_hash}
+use Rattle.repair_scan.specs.declared.candidate.Candidate.{Candidate}
+use Rattle.repair_scan.specs.Candidates.{IsRead, first_key}
+
+module _ (kind : Kind) (keypos unit : ℕ) (bytes : List ℕ) where
+  by_head : (o : Option BlockHead) → o ≡ block_head segment_units (take head_size bytes)
+      → standing segment_units kind keypos unit bytes ≡ standing_with kind keypos unit bytes o
+  unfolding standing
+  by_head o e = ap (standing_with kind keypos unit bytes) (sym e)
+
+  pub bad_head : None ≡ block_head segment_units (take head_size bytes) → standing segment_units kind keypos unit bytes ≡ Err BadHead
+  bad_head e = by_head None e
+
+  module _ (h : BlockHead) (is : Some h ≡ block_head segment_units (take head_size bytes)) where
+    abbrev with_place : Bool → Standing
+    with_place aligned = cond aligned (block_of kind keypos unit h.exp (proper_elements (term_in (payload_in bytes h)))) (Err NotAligned)
+
+    pub not_aligned : (unit % 2 ^ h.exp ≡ 0 → ⊥) → standing segment_units kind keypos unit bytes ≡ Err NotAligned
+    not_aligned other = by_head (Some h) is ∙ ap with_place (ne_eqb (unit % 2 ^ h.exp) 0 other)
+
+    pub aligned : unit % 2 ^ h.exp ≡ 0 → standing segment_units kind keypos unit bytes
+        ≡ block_of kind keypos unit h.exp (proper_elements (term_in (payload_in bytes h)))
+    aligned place = by_head (Some h) is ∙ ap with_place (eq-eqb (unit % 2 ^ h.exp) 0 place)
+
+-- the block of objects by the key of the first
+pub candidate_read : (unit exp keypos : ℕ) (objects : List TermValue) (k : TermValue) (c : Candidate) → Some k ≡ first_key keypos objects → IsTerm k
+    → c.entry ≡ record { hash = hash_of (spelled k); unit = unit; exp = exp; count = length objects } → c.key.items ≡ spelled k
+    → IsRead unit (Ok c) (block_with unit exp objects (first_key keypos objects))
+unfolding key_hash
+candidate_read unit exp keypos objects k c is term entry key = (
+  record { unit = unit; exp = exp; key = k; objects = objects },
+  ap (block_with unit exp objects) (sym is),
+  record {
+    unit = refl;
+    entry = entry;
+    key = key;
+    term = term;
+  },
+)

@@ -1,0 +1,15 @@
+-- What a scan finds, and what closing the gates of rejects keeps. This project's own.
+use Rattle.std.specs.Prelude.{◌≡◌, ℕ, List, map}
+use Rattle.space_model.specs.Sizes.{segment_units}
+use Rattle.file_model.specs.declared.head.Head.{Head}
+use Rattle.file_model.specs.declared.reject.Reject.{Reject}
+use Rattle.file_model.specs.Header.{located}
+use Rattle.file_model.specs.Flush.{table_in}
+
+abbrev pub units_of_rejects : List Reject → List ℕ
+units_of_rejects rejects = map (λ r. r.unit) rejects
+
+-- the header that is read is the same, and so is the table that is seen with this one
+pub record KeepsTable (h : Head) (old now : List ℕ) : Type 0 where
+  pub header : located now ≡ located old
+  pub table : table_in segment_units h now ≡ table_in segment_units h old
