@@ -1,6 +1,6 @@
 -- The report is that of the file.
-use Rattle.std.proofs.Common.{◌≡◌, ◌≤◌, ◌+◌, ℕ, not, ◌&&◌, ◌||◌, ◌==◌, List, [], ◌∷◌, map, length, take, Option, Some, None, Result, Ok, Err, ap, refl, sym, ◌∙◌, arith, ⊎_elim}
-use Rattle.std.specs.Prelude.{min, fold, sum_by, slice_get, is_none, IsErrAnd}
+use Rattle.std.proofs.Common.{◌≡◌, ◌↔◌, ◌≤◌, ◌+◌, ℕ, true, not, ◌&&◌, ◌||◌, ◌==◌, List, [], ◌∷◌, map, length, take, Option, Some, None, Result, Ok, Err, ap, refl, sym, ◌∙◌, subst, arith, ⊎_elim}
+use Rattle.std.specs.Prelude.{min, fold, sum_by, slice_get, is_none, IsErrAnd, IsTrue}
 use Rattle.std.proofs.Math.Bool.{and-true, and-false}
 use Rattle.std.proofs.lemmas.List.Sums.{fold_more}
 use Rattle.std.proofs.lemmas.Option.{slice_get_within, slice_get_cases, get_or_from_slice_get}
@@ -13,15 +13,16 @@ use Rattle.file_model.specs.declared.head.Located.{Located}
 use Rattle.file_model.specs.declared.head.Unreadable.{Unreadable}
 use Rattle.file_model.specs.declared.head.Unreadable.TheVariants as unreadable
 use Rattle.file_model.specs.Layout.{whole_segments}
-use Rattle.file_model.specs.Header.{located}
+use Rattle.file_model.specs.Header.{head_of, located}
 use Rattle.file_model.specs.Block.{Block}
 use Rattle.file_model.specs.View.{View, view_of}
 use Rattle.file_model.specs.Taken.{taken, rejects, entries, entry_of, objects_in}
-use Rattle.file_model.specs.Fit.{are_none, has_segments, has_no_rejects, index_named, lists_taken, can_be_read, is_dirty, is_sound, needs_repair}
+use Rattle.file_model.specs.Fit.{are_none, has_segments, has_no_rejects, index_named, lists_taken, can_be_read, is_dirty, is_sound, needs_repair, IsSound, NeedsRepair}
 use Rattle.block_disk.specs.declared.fault.HeadFault.{HeadFault}
 use Rattle.block_disk.specs.declared.fault.HeadFault.TheVariants.{Disk, NotDets, Version}
 use Rattle.block_disk.specs.Answer.{Answers}
 use Rattle.repair_scan.specs.declared.found.Found.{Found}
+use Rattle.repair_scan.specs.declared.report.Report.{Report}
 use Rattle.repair_scan.specs.Faults.{header_fault}
 use Rattle.repair_scan.specs.Reports.{report_of, Tells}
 use Rattle.repair_scan.specs.Filling.{is_in_order, report_with}
@@ -105,3 +106,17 @@ told_by (Version number) f (Err (unreadable.Version n)) is a = ⊎_elim
 
 pub header_told : (why : HeadFault) (f : List ℕ) → Answers (Err why) (located f) → Tells (Err (header_fault why)) f
 header_told why f a = told_by why f (located f) refl a
+
+-- ---- what a report says
+
+pub sound_exactly : (f : List ℕ) (l : Located) (r : Report) → head_of f ≡ Ok l.head → r ≡ report_of l f → IsTrue r.sound ↔ IsSound f
+sound_exactly f l r at e = (
+  λ s. record { head = l.head; read = at; sound = sym (ap (λ x. x.sound) e) ∙ s },
+  λ s. let same : s.head ≡ l.head = cc (s.read, at) in ap (λ x. x.sound) e ∙ subst (λ h. is_sound h f ≡ true) same s.sound,
+)
+
+pub needs_exactly : (f : List ℕ) (l : Located) (r : Report) → head_of f ≡ Ok l.head → r ≡ report_of l f → IsTrue r.needs_repair ↔ NeedsRepair f
+needs_exactly f l r at e = (
+  λ s. record { head = l.head; read = at; needs = sym (ap (λ x. x.needs_repair) e) ∙ s },
+  λ s. let same : s.head ≡ l.head = cc (s.read, at) in ap (λ x. x.needs_repair) e ∙ subst (λ h. needs_repair h f ≡ true) same s.needs,
+)

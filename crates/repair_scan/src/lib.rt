@@ -25,8 +25,11 @@ mod closing_writes;
 mod fault;
 mod found;
 mod judge;
+pub mod laws;
 mod rejects;
 mod report;
 mod scanning;
 mod segment;
 mod standing;
+#[cfg(test)]
+mod tests;

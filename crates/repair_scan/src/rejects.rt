@@ -52,4 +52,11 @@ impl Rejects {
     {
         self.items.get(place)
     }
+
+    /// All rejects in order.
+    pub fn as_slice(&self) -> &[Reject]
+        ensures { result.now ≡ self.now }
+    {
+        self.items.as_slice()
+    }
 }
