@@ -15,6 +15,7 @@ mod bucket;
 mod buckets;
 mod directory;
 mod entries;
+pub mod laws;
 mod slots;
 #[cfg(test)]
 mod tests;
