@@ -1,0 +1,4 @@
+-- Lemmas that several proofs share.
+pub mod Nests
+pub mod Halves
+-- pub mod Begun

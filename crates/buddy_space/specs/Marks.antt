@@ -1,0 +1,69 @@
+-- One mark for each unit, and what the marks say of runs.
+use Rattle.std.specs.Prelude.{◌≡◌, ◌≤◌, ◌<◌, ◌⊎◌, ℕ, zero, suc, ◌-◌, List, [], ◌∷◌, map, length, get_or, Option, Some, None}
+use Rattle.space_model.specs.Runs.{Run, run, end_of}
+use Rattle.space_model.specs.Apart.{In}
+use Rattle.buddy_space.specs.SpaceState.{SpaceState, units, held, IsParted}
+use Rattle.buddy_space.specs.declared.marks.Mark.{Mark}
+use Rattle.buddy_space.specs.declared.marks.Mark.TheVariants.{Free, Taken, Held}
+use Rattle.buddy_space.specs.declared.marks.Run.{Run as UnitRun}
+
+abbrev pub mark_at : List Mark → ℕ → Mark
+mark_at marks unit = get_or marks unit Held
+
+-- the exponent of the taken run that begins at a unit with this mark
+abbrev pub begun : Mark → Option ℕ
+begun Free = None
+begun (Taken exp) = Some exp
+begun Held = None
+
+abbrev pub with_begun : ℕ → Option ℕ → List Run → List Run
+with_begun unit None runs = runs
+with_begun unit (Some exp) runs = run unit exp ∷ runs
+
+-- the taken runs, where the first mark is that of this unit
+abbrev pub taken_from : ℕ → List Mark → List Run
+taken_from unit [] = []
+taken_from unit (m ∷ ms) = with_begun unit (begun m) (taken_from (suc unit) ms)
+
+abbrev pub run_of : UnitRun → Run
+run_of r = run r.unit r.exp
+
+-- ---- units of runs
+
+abbrev pub Has : Run → ℕ → Type 0
+Has r unit = (r.unit ≤ unit) × (unit < end_of r)
+
+abbrev pub IsOutside : Run → ℕ → Type 0
+IsOutside r unit = (unit < r.unit) ⊎ (end_of r ≤ unit)
+
+abbrev pub AreFree : List Mark → Run → Type 0
+AreFree marks r = (unit : ℕ) → r.unit ≤ unit → unit < end_of r → mark_at marks unit ≡ Free
+
+-- the units of a run got this mark, and the others kept theirs
+pub record IsFilled (old new : List Mark) (r : Run) (mark : Mark) : Type 0 where
+  pub inside : (unit : ℕ) → r.unit ≤ unit → unit < end_of r → mark_at new unit ≡ mark
+  pub outside : (unit : ℕ) → IsOutside r unit → mark_at new unit ≡ mark_at old unit
+
+-- the units of a run were marked as those of a taken one, and the others kept their marks
+pub record IsTaken (old new : List Mark) (r : Run) : Type 0 where
+  pub begins : mark_at new r.unit ≡ Taken r.exp
+  pub inside : (unit : ℕ) → r.unit < unit → unit < end_of r → mark_at new unit ≡ Held
+  pub outside : (unit : ℕ) → IsOutside r unit → mark_at new unit ≡ mark_at old unit
+
+-- ---- what a space keeps
+
+-- the state that callers see
+abbrev pub seen : ℕ → List Mark → List UnitRun → ℕ → SpaceState
+seen segments marks deferred capacity = record {
+  segments = segments;
+  taken = taken_from 0 marks;
+  deferred = map run_of deferred;
+  spare = capacity - length deferred;
+}
+
+-- a unit is marked as free just where no held run has it
+pub record IsMarked (marks : List Mark) (s : SpaceState) : Type 0 where
+  pub whole : length marks ≡ units s
+  pub parted : IsParted s
+  pub free : (unit : ℕ) (r : Run) → mark_at marks unit ≡ Free → In r (held s) → Has r unit → ⊥
+  pub held : (unit : ℕ) → unit < units s → ((r : Run) → In r (held s) → Has r unit → ⊥) → mark_at marks unit ≡ Free

@@ -1,0 +1,2 @@
+//! The units of the segments.
+pub struct Space { segments: u32 }
