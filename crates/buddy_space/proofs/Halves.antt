@@ -266,3 +266,28 @@ pub halves_best : (half : ℕ) (marks : List Mark) (wanted unit : ℕ) (lower up
     → IsBest (half + 1) marks wanted unit (unit + 2 ^ (half + 1)) (joined unit half lower upper)
 halves_best half marks wanted unit lower upper enough aligned f g =
     both_halves half marks wanted unit lower upper (is_whole half lower) (is_whole half upper) refl refl enough aligned f g
+
+-- ---- the halves of a run of at least two units
+
+pub half_size : (exp : ℕ) → 1 ≤ exp → 2 ^ (exp - 1) + 2 ^ (exp - 1) ≡ 2 ^ exp
+half_size exp some =
+    let next = next_power (exp - 1) in
+    let same = ap (λ e. 2 ^ e) (again exp some) in omega (arith, next, same)
+  where
+    again : (e : ℕ) → 1 ≤ e → e - 1 + 1 ≡ e
+    again e some = omega (arith, some)
+
+pub lower_half : (unit exp : ℕ) → unit % 2 ^ exp ≡ 0 → unit % 2 ^ (exp - 1) ≡ 0
+lower_half unit exp aligned = begins_aligned (run unit exp) (exp - 1) aligned (omega arith)
+
+pub upper_half : (unit size exp : ℕ) → size ≡ 2 ^ (exp - 1) → unit % 2 ^ exp ≡ 0 → (unit + size) % 2 ^ (exp - 1) ≡ 0
+upper_half unit size exp is aligned =
+    ap (λ n. (unit + n) % 2 ^ (exp - 1)) is ∙ ends_aligned (run unit (exp - 1)) (exp - 1) (lower_half unit exp aligned) (omega arith)
+
+pub best_of_halves : (exp half : ℕ) (marks : List Mark) (wanted unit size : ℕ) (lower upper : Option UnitRun) → exp ≡ half + 1 → size ≡ 2 ^ half → wanted ≤ half
+    → unit % 2 ^ exp ≡ 0 → IsBest half marks wanted unit (unit + 2 ^ half) lower → IsBest half marks wanted (unit + size) (unit + size + 2 ^ half) upper
+    → IsBest exp marks wanted unit (unit + 2 ^ exp) (joined unit half lower upper)
+best_of_halves exp half marks wanted unit size lower upper is same enough aligned f g =
+    subst (λ e. IsBest e marks wanted unit (unit + 2 ^ e) (joined unit half lower upper)) (sym is)
+    (halves_best half marks wanted unit lower upper enough (subst (λ e. unit % 2 ^ e ≡ 0) is aligned) f
+    (subst (λ n. IsBest half marks wanted (unit + n) (unit + n + 2 ^ half) upper) same g))

@@ -1,4 +1,5 @@
 -- Lemmas that several proofs share.
 pub mod Nests
 pub mod Halves
--- pub mod Begun
+pub mod Segments
+pub mod Begun

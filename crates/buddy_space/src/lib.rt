@@ -8,6 +8,7 @@
 pub use space::Space;
 pub use std::alloc::AllocError as Memory;
 
+pub mod laws;
 mod marks;
 mod search;
 mod space;
