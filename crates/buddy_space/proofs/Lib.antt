@@ -3,3 +3,4 @@ pub mod Nests
 pub mod Halves
 pub mod Segments
 pub mod Begun
+pub mod Parted
