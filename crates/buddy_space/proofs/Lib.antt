@@ -4,3 +4,5 @@ pub mod Halves
 pub mod Segments
 pub mod Begun
 pub mod Parted
+pub mod Freed
+pub mod Placing
