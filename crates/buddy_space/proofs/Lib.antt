@@ -6,3 +6,5 @@ pub mod Begun
 pub mod Parted
 pub mod Freed
 pub mod Placing
+pub mod Changes
+pub mod Deferring

@@ -67,3 +67,7 @@ pub record IsMarked (marks : List Mark) (s : SpaceState) : Type 0 where
   pub parted : IsParted s
   pub free : (unit : ℕ) (r : Run) → mark_at marks unit ≡ Free → In r (held s) → Has r unit → ⊥
   pub held : (unit : ℕ) → unit < units s → ((r : Run) → In r (held s) → Has r unit → ⊥) → mark_at marks unit ≡ Free
+
+-- the units of these runs were marked as free, and the others kept their marks
+pub record IsReleased (old new : List Mark) (runs : List Run) : Type 0 where
+  pub each : (unit : ℕ) → ((mark_at new unit ≡ Free) × ((r : Run) × In r runs × Has r unit)) ⊎ ((mark_at new unit ≡ mark_at old unit) × ((r : Run) → In r runs → Has r unit → ⊥))

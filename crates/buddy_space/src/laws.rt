@@ -12,14 +12,9 @@ pub fn the_runs_part_the_units()
     ensures settle { (s : SpaceState) → IsParted s → IsParted (settling s) }
 {}
 
-ghost use Rattle.std.specs.Prelude.{ℕ, option_map, List, Option};
-ghost use Rattle.space_model.specs.Sizes.{segment_units};
-ghost use Rattle.space_model.specs.Runs.{place};
+ghost use Rattle.std.specs.Prelude.{[], List};
 ghost use Rattle.buddy_space.specs.declared.marks.Mark.{Mark};
-ghost use Rattle.buddy_space.specs.declared.marks.Run.{Run as UnitRun};
-ghost use Rattle.buddy_space.specs.Marks.{IsMarked};
-ghost use Rattle.buddy_space.specs.Pieces.{IsBest};
+ghost use Rattle.buddy_space.specs.Marks.{IsReleased};
 pub fn trying()
-    ensures { (marks : List Mark) (s : SpaceState) (wanted : ℕ) (best : Option UnitRun) → IsMarked marks s → IsBest 12 marks wanted 0 (units s) best
-    → option_map (λ (r : UnitRun). r.unit) best ≡ place segment_units s.segments (held s) wanted }
+    ensures { (marks : List Mark) → IsReleased marks marks [] }
 {}
