@@ -8,3 +8,4 @@ pub mod Freed
 pub mod Placing
 pub mod Changes
 pub mod Deferring
+pub mod Written

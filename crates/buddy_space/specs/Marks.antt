@@ -1,8 +1,8 @@
 -- One mark for each unit, and what the marks say of runs.
-use Rattle.std.specs.Prelude.{◌≡◌, ◌≤◌, ◌<◌, ◌⊎◌, ℕ, zero, suc, ◌-◌, List, [], ◌∷◌, map, length, get_or, Option, Some, None}
+use Rattle.std.specs.Prelude.{◌≡◌, ◌≤◌, ◌<◌, ◌⊎◌, ℕ, zero, suc, ◌-◌, ◌%◌, ◌^◌, List, [], ◌∷◌, map, length, get_or, Option, Some, None}
 use Rattle.space_model.specs.Runs.{Run, run, end_of}
-use Rattle.space_model.specs.Apart.{In}
-use Rattle.buddy_space.specs.SpaceState.{SpaceState, units, held, IsParted}
+use Rattle.space_model.specs.Apart.{In, IsRun}
+use Rattle.buddy_space.specs.SpaceState.{SpaceState, largest_exp, units, held, IsParted}
 use Rattle.buddy_space.specs.declared.marks.Mark.{Mark}
 use Rattle.buddy_space.specs.declared.marks.Mark.TheVariants.{Free, Taken, Held}
 use Rattle.buddy_space.specs.declared.marks.Run.{Run as UnitRun}
@@ -39,6 +39,12 @@ IsOutside r unit = (unit < r.unit) ⊎ (end_of r ≤ unit)
 abbrev pub AreFree : List Mark → Run → Type 0
 AreFree marks r = (unit : ℕ) → r.unit ≤ unit → unit < end_of r → mark_at marks unit ≡ Free
 
+-- an aligned run of units that are there, all of them free
+pub record IsUnused (marks : List Mark) (r : Run) : Type 0 where
+  pub aligned : r.unit % 2 ^ r.exp ≡ 0
+  pub ends : end_of r ≤ length marks
+  pub free : AreFree marks r
+
 -- the units of a run got this mark, and the others kept theirs
 pub record IsFilled (old new : List Mark) (r : Run) (mark : Mark) : Type 0 where
   pub inside : (unit : ℕ) → r.unit ≤ unit → unit < end_of r → mark_at new unit ≡ mark
@@ -67,6 +73,10 @@ pub record IsMarked (marks : List Mark) (s : SpaceState) : Type 0 where
   pub parted : IsParted s
   pub free : (unit : ℕ) (r : Run) → mark_at marks unit ≡ Free → In r (held s) → Has r unit → ⊥
   pub held : (unit : ℕ) → unit < units s → ((r : Run) → In r (held s) → Has r unit → ⊥) → mark_at marks unit ≡ Free
+
+-- runs of the first so many units
+abbrev pub AreWithin : ℕ → List UnitRun → Type 0
+AreWithin units runs = (r : Run) → In r (map run_of runs) → IsRun largest_exp units r
 
 -- the units of these runs were marked as free, and the others kept their marks
 pub record IsReleased (old new : List Mark) (runs : List Run) : Type 0 where

@@ -1,6 +1,6 @@
 //! The marks of units.
-ghost use Rattle.std.specs.Prelude.{◌≡◌, ◌≤◌, ◌<◌, ◌↔◌, ℕ, ◌+◌, ◌^◌, IsTrue, length};
-ghost use Rattle.buddy_space.specs.Marks.{run_of, AreFree, IsFilled, IsTaken};
+ghost use Rattle.std.specs.Prelude.{◌≡◌, ◌≤◌, ◌<◌, ◌↔◌, ℕ, ◌+◌, ◌^◌, IsTrue, length, map};
+ghost use Rattle.buddy_space.specs.Marks.{run_of, AreFree, IsUnused, IsFilled, IsTaken, AreWithin, IsReleased};
 
 /// What is known of one unit: it is free, or the first one of a taken run of this exponent, or a further one of a taken
 /// run or any one of a deferred run.
@@ -41,6 +41,16 @@ pub(crate) fn are_free(marks: &[Mark], run: Run) -> bool
     true
 }
 
+/// Whether a run is aligned and all its units are there and free.
+pub(crate) fn is_unused(marks: &[Mark], run: Run) -> bool
+    requires exp { run.exp ≤ 12 }
+    requires unit { run.unit < 2 ^ 32 }
+    ensures { IsTrue result ↔ IsUnused marks.now (run_of run) }
+{
+    let size = size_of(run.exp);
+    run.unit % size == 0 && run.unit + size <= marks.len() && are_free(marks, run)
+}
+
 /// Gives the units of a run this mark.
 pub(crate) fn fill(marks: &mut [Mark], run: Run, mark: Mark)
     requires exp { run.exp ≤ 12 }
@@ -53,11 +63,21 @@ pub(crate) fn fill(marks: &mut [Mark], run: Run, mark: Mark)
 }
 
 /// Marks the units of a run as those of a taken one.
-pub(crate) fn take(marks: &mut [Mark], run: Run)
+pub(crate) fn mark_taken(marks: &mut [Mark], run: Run)
     requires exp { run.exp ≤ 12 }
     requires ends { run.unit + 2 ^ run.exp ≤ length marks.old }
     ensures { IsTaken marks.old marks.new (run_of run) }
 {
     fill(marks, run, Mark::Held);
     marks[run.unit] = Mark::Taken(run.exp);
+}
+
+/// Marks the units of all these runs as free.
+pub(crate) fn release(marks: &mut [Mark], runs: &[Run])
+    requires { AreWithin (length marks.old) runs.now }
+    ensures { IsReleased marks.old marks.new (map run_of runs.now) }
+{
+    for run in runs {
+        fill(marks, *run, Mark::Free);
+    }
 }

@@ -1,0 +1,134 @@
+-- What a call that writes the marks leaves, for the marks as a vector keeps them.
+use Rattle.std.proofs.Common.{◌≡◌, ◌≤◌, ◌<◌, ◌⊎◌, inl, inr, ⊎_elim, ℕ, suc, ◌+◌, ◌-◌, ◌*◌, ◌%◌, ◌^◌, Bool, true, false, cond, List, [], ◌∷◌, ◌++◌, map, length, get_or, take}
+use Rattle.std.proofs.Common.{Option, Some, None, zero, refl, sym, ap, ◌∙◌, subst, arith}
+use Rattle.std.specs.Prelude.{◌==◌, ◌&&◌}
+use Rattle.std.specs.Vec.{with_items}
+use Rattle.std.specs.Global.{Vec}
+use Rattle.std.proofs.lemmas.List.{with_items_is, take_more, map-append}
+use Rattle.std.proofs.lemmas.Bool.{and_from, and_parts, false_from_ne_true}
+use Rattle.space_model.specs.Sizes.{segment_units}
+use Rattle.space_model.specs.Runs.{Run, run, end_of, is_free, place}
+use Rattle.space_model.specs.Apart.{In, IsRun}
+use Rattle.space_model.proofs.Members.{in_front, in_behind}
+use Rattle.space_model.proofs.FreeRuns.{free_run}
+use Rattle.space_model.proofs.Places.{place_is_run, place_is_free}
+use Rattle.buddy_space.specs.declared.marks.Mark.{Mark}
+use Rattle.buddy_space.specs.declared.marks.Mark.TheVariants.{Free, Taken, Held}
+use Rattle.buddy_space.specs.declared.marks.Run.{Run as UnitRun}
+use Rattle.buddy_space.specs.SpaceState.{SpaceState, largest_exp, units, held, is_free_run, taking, giving, deferring, settling}
+use Rattle.buddy_space.specs.Marks.{run_of, AreFree, IsUnused, IsFilled, IsTaken, AreWithin, IsReleased, seen, IsMarked}
+use Rattle.buddy_space.specs.Pieces.{IsBest}
+use Rattle.buddy_space.proofs.Freed.{free_by_marks, marks_by_free, ends_within}
+use Rattle.buddy_space.proofs.Placing.{best_is_place}
+use Rattle.buddy_space.proofs.Changes.{IsSeen, seen_taking, seen_giving}
+use Rattle.buddy_space.proofs.Deferring.{seen_deferring, seen_settling}
+
+-- a vector with other elements
+written : (v : Vec Mark) (segments : ℕ) (new : List Mark) (deferred : List UnitRun) (capacity : ℕ) (s : SpaceState) → length new ≡ v.len
+    → IsSeen segments new deferred capacity s → IsSeen segments (with_items v new).items deferred capacity s
+written v segments new deferred capacity s long is =
+    subst (λ marks. IsSeen segments marks deferred capacity s) (sym (with_items_is v new long)) is
+
+-- the marks that a call is handed are those of the vector
+pub record IsHanded (v : Vec Mark) (old new : List Mark) : Type 0 where
+  pub same : old ≡ v.items
+  pub long : length old ≡ v.len
+  pub kept : length new ≡ length old
+
+pub taken_run : (segments : ℕ) (marks : List Mark) (deferred : List UnitRun) (capacity : ℕ) (s : SpaceState) (r : Run)
+    → IsMarked marks (seen segments marks deferred capacity) → seen segments marks deferred capacity ≡ s → In r s.taken → IsRun largest_exp (length marks) r
+taken_run segments marks deferred capacity s r is view taken =
+    let has : In r (seen segments marks deferred capacity).taken = subst (λ (t : SpaceState). In r t.taken) (sym view) taken in
+    subst (λ n. IsRun largest_exp n r) (sym is.whole) (is.parted.runs r (in_front _ (map run_of deferred) r has))
+
+pub written_giving : (v : Vec Mark) (segments : ℕ) (old new : List Mark) (deferred : List UnitRun) (capacity : ℕ) (s : SpaceState) (r : Run)
+    → IsMarked v.items (seen segments v.items deferred capacity) → seen segments v.items deferred capacity ≡ s → In r s.taken → IsHanded v old new
+    → IsFilled old new r Free → IsSeen segments (with_items v new).items deferred capacity (giving s r)
+written_giving v segments old new deferred capacity s r is view taken handed filled =
+    let long = handed.long in
+    let kept = handed.kept in
+    let same = ap length handed.same in
+    written v segments new deferred capacity (giving s r) (omega (arith, long, kept))
+    (subst (λ t. IsSeen segments new deferred capacity (giving t r)) view
+    (seen_giving segments v.items new deferred capacity r is (subst (λ (t : SpaceState). In r t.taken) (sym view) taken) (omega (arith, same, kept))
+    (subst (λ marks. IsFilled marks new r Free) handed.same filled)))
+
+pub written_deferring : (v : Vec Mark) (segments : ℕ) (old new : List Mark) (deferred : List UnitRun) (capacity : ℕ) (s : SpaceState) (r : UnitRun)
+    → IsMarked v.items (seen segments v.items deferred capacity) → seen segments v.items deferred capacity ≡ s → In (run_of r) s.taken → IsHanded v old new
+    → IsFilled old new (run r.unit 0) Held → IsSeen segments (with_items v new).items (deferred ++ r ∷ []) capacity (deferring s (run_of r))
+written_deferring v segments old new deferred capacity s r is view taken handed filled =
+    let long = handed.long in
+    let kept = handed.kept in
+    let same = ap length handed.same in
+    written v segments new (deferred ++ r ∷ []) capacity (deferring s (run_of r)) (omega (arith, long, kept))
+    (subst (λ t. IsSeen segments new (deferred ++ r ∷ []) capacity (deferring t (run_of r))) view
+    (seen_deferring segments v.items new deferred capacity r is (subst (λ (t : SpaceState). In (run_of r) t.taken) (sym view) taken)
+    (omega (arith, same, kept)) (subst (λ marks. IsFilled marks new (run r.unit 0) Held) handed.same filled)))
+
+pub written_settling : (v : Vec Mark) (segments : ℕ) (old new : List Mark) (deferred : List UnitRun) (capacity : ℕ) (s : SpaceState)
+    → IsMarked v.items (seen segments v.items deferred capacity) → seen segments v.items deferred capacity ≡ s → IsHanded v old new
+    → IsReleased old new (map run_of deferred) → IsSeen segments (with_items v new).items [] capacity (record (settling s) { spare = capacity - 0 })
+written_settling v segments old new deferred capacity s is view handed released =
+    let long = handed.long in
+    let kept = handed.kept in
+    let same = ap length handed.same in
+    written v segments new [] capacity (record (settling s) { spare = capacity - 0 }) (omega (arith, long, kept))
+    (subst (λ t. IsSeen segments new [] capacity (record (settling t) { spare = capacity - 0 })) view
+    (seen_settling segments v.items new deferred capacity is (omega (arith, same, kept))
+    (subst (λ marks. IsReleased marks new (map run_of deferred)) handed.same released)))
+
+pub written_taking : (v : Vec Mark) (segments : ℕ) (old new : List Mark) (deferred : List UnitRun) (capacity : ℕ) (s : SpaceState) (r : Run)
+    → IsMarked v.items (seen segments v.items deferred capacity) → seen segments v.items deferred capacity ≡ s → IsRun largest_exp (4096 * segments) r
+    → AreFree v.items r → IsHanded v old new → IsTaken old new r → IsSeen segments (with_items v new).items deferred capacity (taking s r)
+written_taking v segments old new deferred capacity s r is view run free handed took =
+    let long = handed.long in
+    let kept = handed.kept in
+    let same = ap length handed.same in
+    written v segments new deferred capacity (taking s r) (omega (arith, long, kept))
+    (subst (λ t. IsSeen segments new deferred capacity (taking t r)) view
+    (seen_taking segments v.items new deferred capacity r is run free (omega (arith, same, kept)) (subst (λ marks. IsTaken marks new r) handed.same took)))
+
+-- ---- whether a run is free
+
+pub unused_is_free : (marks : List Mark) (s : SpaceState) (r : Run) → IsMarked marks s → IsUnused marks r → is_free_run s r ≡ true
+unused_is_free marks s r is unused =
+    let long = is.whole in
+    let ends = unused.ends in
+    and_from (r.unit % 2 ^ r.exp == 0) (is_free (units s) (held s) r) (ap (λ n. n == 0) unused.aligned)
+    (free_by_marks marks s r is (omega (arith, long, ends)) unused.free)
+
+pub free_is_unused : (marks : List Mark) (s : SpaceState) (r : Run) → IsMarked marks s → is_free_run s r ≡ true → IsUnused marks r
+free_is_unused marks s r is free =
+    let parts = and_parts (r.unit % 2 ^ r.exp == 0) (is_free (units s) (held s) r) free in
+    let long = is.whole in
+    let ends = (free_run (units s) (held s) r parts.1).0 in
+    record { aligned = zero_from (r.unit % 2 ^ r.exp) parts.0; ends = omega (arith, long, ends); free = marks_by_free marks s r is parts.1 }
+  where
+    zero_from : (n : ℕ) → (n == 0) ≡ true → n ≡ 0
+    zero_from n e = grind arith
+
+pub used_is_held : (marks : List Mark) (s : SpaceState) (r : Run) → IsMarked marks s → (IsUnused marks r → ⊥) → is_free_run s r ≡ false
+used_is_held marks s r is used = false_from_ne_true _ (λ free. used (free_is_unused marks s r is free))
+
+-- ---- the place that was found
+
+pub placed_run : (marks : List Mark) (s : SpaceState) (wanted unit : ℕ) → IsMarked marks s → Some unit ≡ place segment_units s.segments (held s) wanted
+    → IsRun largest_exp (units s) (run unit wanted) × AreFree marks (run unit wanted)
+placed_run marks s wanted unit is found = (
+  place_is_run largest_exp (units s) (held s) wanted unit (sym found),
+  marks_by_free marks s (run unit wanted) is (place_is_free largest_exp (units s) (held s) wanted unit (sym found)),
+)
+
+-- ---- runs that are released in turn
+
+in_mapped_at : (runs : List UnitRun) (i : ℕ) (d : UnitRun) → i < length runs → In (run_of (get_or runs i d)) (map run_of runs)
+in_mapped_at [] i d l = absurd (omega (arith, l))
+in_mapped_at (r ∷ rs) zero d l = inl refl
+in_mapped_at (r ∷ rs) (suc i) d l = inr (in_mapped_at rs i d (omega (arith, l)))
+
+pub within_at : (units : ℕ) (runs : List UnitRun) (i : ℕ) (d : UnitRun) → AreWithin units runs → i < length runs → IsRun largest_exp units (run_of (get_or runs i d))
+within_at units runs i d within l = within (run_of (get_or runs i d)) (in_mapped_at runs i d l)
+
+pub mapped_more : (runs : List UnitRun) (i : ℕ) (d : UnitRun) → i < length runs
+    → map run_of (take (i + 1) runs) ≡ map run_of (take i runs) ++ run_of (get_or runs i d) ∷ []
+mapped_more runs i d l = ap (map run_of) (take_more runs i d l) ∙ map-append run_of (take i runs) (get_or runs i d ∷ [])
