@@ -83,22 +83,22 @@ marked_taking marks new s r is run free long took = record {
 
 -- what a space keeps, and what callers see
 abbrev pub IsSeen : ℕ → List Mark → List UnitRun → ℕ → SpaceState → Type 0
-IsSeen segments marks deferred capacity s = IsMarked marks (seen segments marks deferred capacity) × (seen segments marks deferred capacity ≡ s)
+IsSeen segments marks deferred spare s = IsMarked marks (seen segments marks deferred spare) × (seen segments marks deferred spare ≡ s)
 
-pub shown : (segments : ℕ) (marks : List Mark) (deferred : List UnitRun) (capacity : ℕ) (s : SpaceState) → seen segments marks deferred capacity ≡ s → IsMarked marks s
-    → IsSeen segments marks deferred capacity s
-shown segments marks deferred capacity s same is = (subst (λ t. IsMarked marks t) (sym same) is, same)
+pub shown : (segments : ℕ) (marks : List Mark) (deferred : List UnitRun) (spare : ℕ) (s : SpaceState) → seen segments marks deferred spare ≡ s → IsMarked marks s
+    → IsSeen segments marks deferred spare s
+shown segments marks deferred spare s same is = (subst (λ t. IsMarked marks t) (sym same) is, same)
 
 abbrev with_runs : SpaceState → List Run → SpaceState
 with_runs s runs = record s { taken = runs }
 
-pub seen_taking : (segments : ℕ) (marks new : List Mark) (deferred : List UnitRun) (capacity : ℕ) (r : Run) → IsMarked marks (seen segments marks deferred capacity)
+pub seen_taking : (segments : ℕ) (marks new : List Mark) (deferred : List UnitRun) (spare : ℕ) (r : Run) → IsMarked marks (seen segments marks deferred spare)
     → IsRun largest_exp (4096 * segments) r → AreFree marks r → length marks ≡ length new → IsTaken marks new r
-    → IsSeen segments new deferred capacity (taking (seen segments marks deferred capacity) r)
-seen_taking segments marks new deferred capacity r is run free long took =
-    shown segments new deferred capacity (taking (seen segments marks deferred capacity) r)
-    (ap (with_runs (seen segments marks deferred capacity)) (taken_runs marks new r long free took))
-    (marked_taking marks new (seen segments marks deferred capacity) r is run free long took)
+    → IsSeen segments new deferred spare (taking (seen segments marks deferred spare) r)
+seen_taking segments marks new deferred spare r is run free long took =
+    shown segments new deferred spare (taking (seen segments marks deferred spare) r)
+    (ap (with_runs (seen segments marks deferred spare)) (taken_runs marks new r long free took))
+    (marked_taking marks new (seen segments marks deferred spare) r is run free long took)
 
 -- ---- a run is given back
 
@@ -167,11 +167,11 @@ marked_giving marks new s r is taken long filled = record {
       (in_or_out r u);
 }
 
-pub seen_giving : (segments : ℕ) (marks new : List Mark) (deferred : List UnitRun) (capacity : ℕ) (r : Run) → IsMarked marks (seen segments marks deferred capacity)
+pub seen_giving : (segments : ℕ) (marks new : List Mark) (deferred : List UnitRun) (spare : ℕ) (r : Run) → IsMarked marks (seen segments marks deferred spare)
     → In r (taken_from 0 marks) → length marks ≡ length new → IsFilled marks new r Free
-    → IsSeen segments new deferred capacity (giving (seen segments marks deferred capacity) r)
-seen_giving segments marks new deferred capacity r is taken long filled =
-    shown segments new deferred capacity (giving (seen segments marks deferred capacity) r)
-    (ap (with_runs (seen segments marks deferred capacity))
+    → IsSeen segments new deferred spare (giving (seen segments marks deferred spare) r)
+seen_giving segments marks new deferred spare r is taken long filled =
+    shown segments new deferred spare (giving (seen segments marks deferred spare) r)
+    (ap (with_runs (seen segments marks deferred spare))
     (given_runs marks new r long (pairs_front Apart (taken_from 0 marks) (map run_of deferred) is.parted.apart) taken filled))
-    (marked_giving marks new (seen segments marks deferred capacity) r is taken long filled)
+    (marked_giving marks new (seen segments marks deferred spare) r is taken long filled)

@@ -66,34 +66,27 @@ marked_deferring marks new s r is taken long filled = record {
     first : {u : ℕ} → u ≡ r.unit → Has r u
     first same = let some = pow_pos r.exp in (omega (arith, same), omega (arith, same, some))
 
-pub seen_deferring : (segments : ℕ) (marks new : List Mark) (deferred : List UnitRun) (capacity : ℕ) (r : UnitRun)
-    → IsMarked marks (seen segments marks deferred capacity) → In (run_of r) (taken_from 0 marks) → length marks ≡ length new
+pub seen_deferring : (segments : ℕ) (marks new : List Mark) (deferred : List UnitRun) (spare : ℕ) (r : UnitRun)
+    → IsMarked marks (seen segments marks deferred spare) → In (run_of r) (taken_from 0 marks) → length marks ≡ length new
     → IsFilled marks new (run r.unit 0) Held
-    → IsSeen segments new (deferred ++ r ∷ []) capacity (deferring (seen segments marks deferred capacity) (run_of r))
-seen_deferring segments marks new deferred capacity r is taken long filled =
-    shown segments new (deferred ++ r ∷ []) capacity (deferring (seen segments marks deferred capacity) (run_of r))
-    (ap (λ rs. record {
-      segments = segments;
-      taken = rs;
-      deferred = map run_of (deferred ++ r ∷ []);
-      spare = capacity - length (deferred ++ r ∷ []);
-    }) (deferred_runs marks new (run_of r) long taken filled)
-    ∙ ap (λ rs. record {
-      segments = segments;
-      taken = without (run_of r) (taken_from 0 marks);
-      deferred = rs;
-      spare = capacity - length (deferred ++ r ∷ []);
-    }) (map-append run_of deferred (r ∷ []))
-    ∙ ap (λ n. record {
-      segments = segments;
-      taken = without (run_of r) (taken_from 0 marks);
-      deferred = map run_of deferred ++ run_of r ∷ [];
-      spare = n;
-    }) fewer)
-    (marked_deferring marks new (seen segments marks deferred capacity) (run_of r) is taken long filled)
-  where
-    fewer : capacity - length (deferred ++ r ∷ []) ≡ capacity - length deferred - 1
-    fewer = let more = length_push deferred r in omega (arith, more)
+    → IsSeen segments new (deferred ++ r ∷ []) (spare - 1) (deferring (seen segments marks deferred spare) (run_of r))
+seen_deferring segments marks new deferred spare r is taken long filled =
+    shown segments new (deferred ++ r ∷ []) (spare - 1) (deferring (seen segments marks deferred spare) (run_of r))
+    (ap (λ runs. record { segments = segments; taken = runs; deferred = map run_of (deferred ++ r ∷ []); spare = spare - 1 })
+    (deferred_runs marks new (run_of r) long taken filled)
+    ∙ ap (λ runs. record { segments = segments; taken = without (run_of r) (taken_from 0 marks); deferred = runs; spare = spare - 1 })
+    (map-append run_of deferred (r ∷ [])))
+    (marked_deferring marks new (seen segments marks deferred spare) (run_of r) is taken long filled)
+
+-- ---- the spare alone changes
+
+pub spared : (marks : List Mark) (s : SpaceState) (n : ℕ) → IsMarked marks s → IsMarked marks (record s { spare = n })
+spared marks s n m = record {
+  whole = m.whole;
+  parted = record { most = m.parted.most; runs = m.parted.runs; apart = m.parted.apart; ascending = m.parted.ascending };
+  free = m.free;
+  held = m.held;
+}
 
 -- ---- all deferred runs are settled
 
@@ -139,22 +132,13 @@ marked_settling marks new s is long released = record {
       (released.each u);
 }
 
-pub seen_settling : (segments : ℕ) (marks new : List Mark) (deferred : List UnitRun) (capacity : ℕ) → IsMarked marks (seen segments marks deferred capacity)
-    → length marks ≡ length new → IsReleased marks new (map run_of deferred)
-    → IsSeen segments new [] capacity (record (settling (seen segments marks deferred capacity)) { spare = capacity - 0 })
-seen_settling segments marks new deferred capacity is long released =
-    shown segments new [] capacity (record (settling (seen segments marks deferred capacity)) { spare = capacity - 0 })
-    (ap (λ rs. record { segments = segments; taken = rs; deferred = []; spare = capacity - 0 })
+pub seen_settling : (segments : ℕ) (marks new : List Mark) (deferred : List UnitRun) (spare : ℕ) → IsMarked marks (seen segments marks deferred spare)
+    → length marks ≡ length new → IsReleased marks new (map run_of deferred) → IsSeen segments new [] spare (settling (seen segments marks deferred spare))
+seen_settling segments marks new deferred spare is long released =
+    shown segments new [] spare (settling (seen segments marks deferred spare))
+    (ap (λ runs. record { segments = segments; taken = runs; deferred = []; spare = spare })
     (sym (settled_runs marks new (map run_of deferred) long is.parted.apart released)))
-    (again (marked_settling marks new (seen segments marks deferred capacity) is long released))
-  where
-    again : IsMarked new (settling (seen segments marks deferred capacity))
-        → IsMarked new (record (settling (seen segments marks deferred capacity)) { spare = capacity - 0 })
-    again m = record { whole = m.whole; parted = spared m.parted; free = m.free; held = m.held }
-      where
-        spared : IsParted (settling (seen segments marks deferred capacity))
-            → IsParted (record (settling (seen segments marks deferred capacity)) { spare = capacity - 0 })
-        spared p = record { most = p.most; runs = p.runs; apart = p.apart; ascending = p.ascending }
+    (marked_settling marks new (seen segments marks deferred spare) is long released)
 
 -- ---- one more segment
 
@@ -185,10 +169,10 @@ marked_segment marks s is few = record {
       (cases_lt u (length marks));
 }
 
-pub seen_segment : (segments : ℕ) (marks : List Mark) (deferred : List UnitRun) (capacity : ℕ) → IsMarked marks (seen segments marks deferred capacity)
+pub seen_segment : (segments : ℕ) (marks : List Mark) (deferred : List UnitRun) (spare : ℕ) → IsMarked marks (seen segments marks deferred spare)
     → segments < most_segments
-    → IsSeen (segments + 1) (marks ++ replicate 4096 Free) deferred capacity (with_segment (seen segments marks deferred capacity))
-seen_segment segments marks deferred capacity is few =
-    shown (segments + 1) (marks ++ replicate 4096 Free) deferred capacity (with_segment (seen segments marks deferred capacity))
-    (ap (λ rs. record { segments = segments + 1; taken = rs; deferred = map run_of deferred; spare = capacity - length deferred }) (none_behind 0 4096 marks))
-    (marked_segment marks (seen segments marks deferred capacity) is few)
+    → IsSeen (segments + 1) (marks ++ replicate 4096 Free) deferred spare (with_segment (seen segments marks deferred spare))
+seen_segment segments marks deferred spare is few =
+    shown (segments + 1) (marks ++ replicate 4096 Free) deferred spare (with_segment (seen segments marks deferred spare))
+    (ap (λ rs. record { segments = segments + 1; taken = rs; deferred = map run_of deferred; spare = spare }) (none_behind 0 4096 marks))
+    (marked_segment marks (seen segments marks deferred spare) is few)

@@ -1,5 +1,5 @@
 -- One mark for each unit, and what the marks say of runs.
-use Rattle.std.specs.Prelude.{◌≡◌, ◌≤◌, ◌<◌, ◌⊎◌, ℕ, zero, suc, ◌-◌, ◌%◌, ◌^◌, List, [], ◌∷◌, map, length, get_or, Option, Some, None}
+use Rattle.std.specs.Prelude.{◌≡◌, ◌≤◌, ◌<◌, ◌⊎◌, ℕ, zero, suc, ◌+◌, ◌%◌, ◌^◌, List, [], ◌∷◌, map, length, get_or, Option, Some, None}
 use Rattle.space_model.specs.Runs.{Run, run, end_of}
 use Rattle.space_model.specs.Apart.{In, IsRun}
 use Rattle.buddy_space.specs.SpaceState.{SpaceState, largest_exp, units, held, IsParted}
@@ -60,12 +60,7 @@ pub record IsTaken (old new : List Mark) (r : Run) : Type 0 where
 
 -- the state that callers see
 abbrev pub seen : ℕ → List Mark → List UnitRun → ℕ → SpaceState
-seen segments marks deferred capacity = record {
-  segments = segments;
-  taken = taken_from 0 marks;
-  deferred = map run_of deferred;
-  spare = capacity - length deferred;
-}
+seen segments marks deferred spare = record { segments = segments; taken = taken_from 0 marks; deferred = map run_of deferred; spare = spare }
 
 -- a unit is marked as free just where no held run has it
 pub record IsMarked (marks : List Mark) (s : SpaceState) : Type 0 where
@@ -73,6 +68,11 @@ pub record IsMarked (marks : List Mark) (s : SpaceState) : Type 0 where
   pub parted : IsParted s
   pub free : (unit : ℕ) (r : Run) → mark_at marks unit ≡ Free → In r (held s) → Has r unit → ⊥
   pub held : (unit : ℕ) → unit < units s → ((r : Run) → In r (held s) → Has r unit → ⊥) → mark_at marks unit ≡ Free
+
+-- and the list of deferred runs has room for the spare ones, beside so many
+pub record IsKept (marks : List Mark) (s : SpaceState) (count capacity : ℕ) : Type 0 where
+  pub marked : IsMarked marks s
+  pub room : count + s.spare ≤ capacity
 
 -- runs of the first so many units
 abbrev pub AreWithin : ℕ → List UnitRun → Type 0

@@ -3,7 +3,7 @@
 //! The plain body: one mark for each unit, and a list of the deferred runs. `take` looks at each unit once, and no other
 //! call looks at more units than those of the runs that it changes. A body that keeps the free runs of each size by
 //! themselves will replace it, under the same contracts.
-ghost use Rattle.std.specs.Prelude.{◌≡◌, ◌≤◌, ◌<◌, ◌^◌, OnOk, OnErr, MatchOption, if◌then◌else◌};
+ghost use Rattle.std.specs.Prelude.{◌≡◌, ◌≤◌, ◌<◌, ◌^◌, max, OnOk, OnErr, MatchOption, if◌then◌else◌};
 ghost use Rattle.space_model.specs.Sizes.{segment_units};
 ghost use Rattle.space_model.specs.Runs.{run, place};
 ghost use Rattle.space_model.specs.Apart.{In};
@@ -19,25 +19,27 @@ use std::marker::Model;
 const SEGMENT_UNITS: usize = 4096;
 
 /// Segments of 4,096 units, of which runs are taken and deferred. Contracts see the number of segments, the taken runs in
-/// ascending order, the deferred ones in the order in which they were deferred, and how many more can be deferred.
+/// ascending order, the deferred ones in the order in which they were deferred, and how
+/// many more can be deferred: the spare.
 #[derive(Drop)]
 pub struct Space {
     segments: u32,
     marks: Vec<Mark>,
     deferred: Vec<Run>,
+    spare: usize,
 }
 
 impl Model for Space {
-    ghost use Rattle.std.specs.Prelude.{vec_capacity};
+    ghost use Rattle.std.specs.Prelude.{vec_len, vec_capacity};
     ghost use Rattle.buddy_space.specs.SpaceState.{SpaceState};
 
     ghost Value = { SpaceState };
 
-    ghost use Rattle.buddy_space.specs.Marks.{seen, IsMarked};
+    ghost use Rattle.buddy_space.specs.Marks.{seen, IsKept};
 
-    ghost view = { λ a. seen a.segments a.marks.items a.deferred.items (vec_capacity a.deferred) };
+    ghost view = { λ a. seen a.segments a.marks.items a.deferred.items a.spare };
 
-    ghost invariant = { λ a. IsMarked a.marks.items (seen a.segments a.marks.items a.deferred.items (vec_capacity a.deferred)) };
+    ghost invariant = { λ a. IsKept a.marks.items (seen a.segments a.marks.items a.deferred.items a.spare) (vec_len a.deferred) (vec_capacity a.deferred) };
 }
 
 impl Space {
@@ -49,6 +51,7 @@ impl Space {
             segments: 0,
             marks: Vec::new(alloc),
             deferred: Vec::new(alloc),
+            spare: 0,
         }
     }
 
@@ -122,15 +125,16 @@ impl Space {
         fill(&mut self.marks, run, Mark::Free);
     }
 
-    /// Makes room for so many more deferred runs. After `Memory` the space is as it was.
+    /// Makes room for at least so many more deferred runs. After `Memory` the space is as it was.
     pub fn reserve_deferred(&mut self, n: usize) -> Result<(), Memory>
-        ensures ok { OnOk result (n ≤ self.new.spare) }
-        ensures same { self.new ≡ with_spare self.new.spare self.old }
-        ensures spare { self.old.spare ≤ self.new.spare }
+        ensures ok { OnOk result (self.new ≡ with_spare (max self.old.spare n) self.old) }
         ensures err { OnErr result (self.new ≡ self.old) }
         ensures room { OnErr result (self.old.spare < n) }
     {
-        self.deferred.reserve(n)?;
+        if self.spare < n {
+            self.deferred.reserve(n)?;
+            self.spare = n;
+        }
         Ok(())
     }
 
@@ -151,12 +155,12 @@ impl Space {
         };
         fill(&mut self.marks, first, Mark::Held);
         let _ = self.deferred.push(run);
+        self.spare -= 1;
     }
 
     /// Frees all deferred runs.
     pub fn settle(&mut self)
-        ensures settled { self.new ≡ with_spare self.new.spare (settling self.old) }
-        ensures spare { self.old.spare ≤ self.new.spare }
+        ensures settled { self.new ≡ settling self.old }
         ensures parted { IsParted self.new }
     {
         release(&mut self.marks, &self.deferred);
