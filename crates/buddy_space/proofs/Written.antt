@@ -1,7 +1,7 @@
 -- What a call that writes the marks leaves, for the marks as a vector keeps them.
 use Rattle.std.proofs.Common.{◌≡◌, ◌≤◌, ◌<◌, ◌⊎◌, inl, inr, ⊎_elim, ℕ, suc, ◌+◌, ◌-◌, ◌*◌, ◌%◌, ◌^◌, Bool, true, false, cond, List, [], ◌∷◌, ◌++◌, map, length, get_or, take, replicate}
 use Rattle.std.proofs.Common.{Option, Some, None, zero, refl, sym, ap, ◌∙◌, subst, arith}
-use Rattle.std.specs.Prelude.{◌==◌, ◌&&◌, option_map}
+use Rattle.std.specs.Prelude.{◌==◌, ◌&&◌, option_map, Result, Ok, Err, is_ok, IsOk}
 use Rattle.std.specs.Vec.{with_items}
 use Rattle.std.specs.Global.{Vec}
 use Rattle.std.proofs.lemmas.List.{with_items_is, take_all, take_more, map-append}
@@ -163,3 +163,18 @@ pub found_run : (segments : ℕ) (marks : List Mark) (deferred : List UnitRun) (
     → IsRun largest_exp (4096 * segments) (run best.unit wanted) × AreFree marks (run best.unit wanted)
 found_run segments marks deferred spare wanted best is f =
     placed_run marks (seen segments marks deferred spare) wanted best.unit is (best_is_place marks (seen segments marks deferred spare) wanted (Some best) is f)
+
+-- ---- a push that has room
+
+pub pushed : {T E : Type 0} (r : Result T E) (count capacity spare : ℕ) (old new : List UnitRun) (x : UnitRun) → (count < capacity → IsOk r)
+    → count + spare ≤ capacity → 1 ≤ spare → new ≡ cond (is_ok r) (old ++ x ∷ []) old → new ≡ old ++ x ∷ []
+pushed r count capacity spare old new x ok room some is = is ∙ ap (λ b. cond b (old ++ x ∷ []) old) (ok (omega (arith, room, some)))
+
+-- ---- a run that is claimed
+
+pub unused_run : (segments : ℕ) (marks : List Mark) (deferred : List UnitRun) (spare : ℕ) (r : Run) → IsMarked marks (seen segments marks deferred spare)
+    → r.exp ≤ largest_exp → IsUnused marks r → IsRun largest_exp (4096 * segments) r
+unused_run segments marks deferred spare r is fits unused =
+    let whole = is.whole in
+    let ends = unused.ends in
+    record { exp = fits; aligned = unused.aligned; ends = omega (arith, whole, ends) }

@@ -29,3 +29,19 @@ invariant_of-self c =
     c.self.inside.spare c.args.self.now (run c.in_ok-best.best.unit c.args.exp) c.self.invariant.marked c.self.view_is found.0 found.1
     (record { same = c.deref_mut.ensures.value; long = c.deref_mut.ensures.len; kept = c.mark_taken.auto.marks }) c.mark_taken.ensures in
     record { marked = new.0; room = c.self.invariant.room }
+
+pub returns-clause-taken : goal.returns-clause-taken
+returns-clause-taken c =
+    let found = found_run c.self.inside.segments c.self.inside.marks.items c.self.inside.deferred.items c.self.inside.spare
+    c.args.exp c.in_ok-best.best c.self.invariant.marked (rw c.deref.ensures.value at c.in_ok-best.ensures) in
+    (written_taking c.self.inside.marks c.self.inside.segments c.deref_mut.result.now c.mark_taken.new.marks c.self.inside.deferred.items
+    c.self.inside.spare c.args.self.now (run c.in_ok-best.best.unit c.args.exp) c.self.invariant.marked c.self.view_is found.0 found.1
+    (record { same = c.deref_mut.ensures.value; long = c.deref_mut.ensures.len; kept = c.mark_taken.auto.marks }) c.mark_taken.ensures).1
+
+pub returns-clause-parted : goal.returns-clause-parted
+returns-clause-parted c =
+    let found = found_run c.self.inside.segments c.self.inside.marks.items c.self.inside.deferred.items c.self.inside.spare
+    c.args.exp c.in_ok-best.best c.self.invariant.marked (rw c.deref.ensures.value at c.in_ok-best.ensures) in
+    (written_taking c.self.inside.marks c.self.inside.segments c.deref_mut.result.now c.mark_taken.new.marks c.self.inside.deferred.items
+    c.self.inside.spare c.args.self.now (run c.in_ok-best.best.unit c.args.exp) c.self.invariant.marked c.self.view_is found.0 found.1
+    (record { same = c.deref_mut.ensures.value; long = c.deref_mut.ensures.len; kept = c.mark_taken.auto.marks }) c.mark_taken.ensures).0.parted
