@@ -103,7 +103,7 @@ taken_same n (x ∷ xs) (y ∷ ys) long same =
     ap (λ o. with_begun n o (taken_from (suc n) xs)) (same 0)
     ∙ ap (λ rs. with_begun n (begun y) rs) (taken_same (suc n) xs ys (omega (arith, long)) (λ k. same (suc k)))
 
-first_place : (r : Run) (rs : List Run) → ((q : Run) → In q rs → r.unit < q.unit) → with_run r rs ≡ r ∷ rs
+pub first_place : (r : Run) (rs : List Run) → ((q : Run) → In q rs → r.unit < q.unit) → with_run r rs ≡ r ∷ rs
 first_place r [] before = refl
 first_place r (q ∷ qs) before = ap (λ b. cond b (r ∷ q ∷ qs) (q ∷ with_run r qs)) (lt_true r.unit q.unit (before q (inl refl)))
 
@@ -133,7 +133,7 @@ pub taken_more : (xs ys : List Mark) (r : Run) → length xs ≡ length ys → A
     → taken_from 0 ys ≡ with_run r (taken_from 0 xs)
 taken_more xs ys r long same was is = more_at 0 xs ys r.unit r.exp r.unit (omega arith) long same was is
 
-stays : (r q : Run) (qs : List Run) → is_same r q ≡ false → without r (q ∷ qs) ≡ q ∷ without r qs
+pub stays : (r q : Run) (qs : List Run) → is_same r q ≡ false → without r (q ∷ qs) ≡ q ∷ without r qs
 stays r q qs is = ap (λ b. cond (not b) (q ∷ without r qs) (without r qs)) is
 
 pub goes : (r : Run) (qs : List Run) → without r (r ∷ qs) ≡ without r qs

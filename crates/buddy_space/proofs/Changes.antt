@@ -102,7 +102,7 @@ seen_taking segments marks new deferred spare r is run free long took =
 
 -- ---- a run is given back
 
-same_run : (r q : Run) → is_same r q ≡ true → r ≡ q
+pub same_run : (r q : Run) → is_same r q ≡ true → r ≡ q
 same_run r q e =
     let parts = and_parts (r.unit == q.unit) (r.exp == q.exp) e in
     let unit = number r.unit q.unit parts.0 in

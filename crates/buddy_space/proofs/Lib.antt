@@ -9,3 +9,4 @@ pub mod Placing
 pub mod Changes
 pub mod Deferring
 pub mod Written
+pub mod States

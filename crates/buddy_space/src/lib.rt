@@ -12,3 +12,5 @@ pub mod laws;
 mod marks;
 mod search;
 mod space;
+#[cfg(test)]
+mod tests;
