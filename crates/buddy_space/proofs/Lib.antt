@@ -1,10 +1,10 @@
 -- Lemmas that several proofs share.
 pub mod Nests
-pub mod Halves
-pub mod Segments
 pub mod Begun
 pub mod Parted
 pub mod Freed
+pub mod Ranges
+pub mod Stretches
 pub mod Placing
 pub mod Changes
 pub mod Deferring

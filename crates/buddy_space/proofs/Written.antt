@@ -152,17 +152,18 @@ written_segment segments marks new deferred spare most more s is view few long s
     whole = ap (λ ms. ms ++ replicate more Free) (take_all most marks long) ∙ ap (λ n. marks ++ replicate n Free) same
 
 pub found_place : (segments : ℕ) (marks : List Mark) (deferred : List UnitRun) (spare : ℕ) (s : SpaceState) (wanted : ℕ) (best : Option UnitRun)
-    → IsMarked marks (seen segments marks deferred spare) → seen segments marks deferred spare ≡ s → IsBest 12 marks wanted 0 (4096 * segments) best
+    → IsMarked marks (seen segments marks deferred spare) → seen segments marks deferred spare ≡ s → IsBest 12 marks wanted 0 (length marks) best
     → option_map (λ (r : UnitRun). r.unit) best ≡ place segment_units s.segments (held s) wanted
 found_place segments marks deferred spare s wanted best is view f =
     subst (λ (t : SpaceState). option_map (λ (r : UnitRun). r.unit) best ≡ place segment_units t.segments (held t) wanted) view
-    (best_is_place marks (seen segments marks deferred spare) wanted best is f)
+    (best_is_place marks (seen segments marks deferred spare) wanted best is (subst (λ end. IsBest 12 marks wanted 0 end best) is.whole f))
 
 pub found_run : (segments : ℕ) (marks : List Mark) (deferred : List UnitRun) (spare wanted : ℕ) (best : UnitRun)
-    → IsMarked marks (seen segments marks deferred spare) → IsBest 12 marks wanted 0 (4096 * segments) (Some best)
+    → IsMarked marks (seen segments marks deferred spare) → IsBest 12 marks wanted 0 (length marks) (Some best)
     → IsRun largest_exp (4096 * segments) (run best.unit wanted) × AreFree marks (run best.unit wanted)
 found_run segments marks deferred spare wanted best is f =
-    placed_run marks (seen segments marks deferred spare) wanted best.unit is (best_is_place marks (seen segments marks deferred spare) wanted (Some best) is f)
+    placed_run marks (seen segments marks deferred spare) wanted best.unit is 
+    (best_is_place marks (seen segments marks deferred spare) wanted (Some best) is (subst (λ end. IsBest 12 marks wanted 0 end (Some best)) is.whole f))
 
 -- ---- a push that has room
 

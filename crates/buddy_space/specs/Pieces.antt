@@ -1,10 +1,11 @@
 -- The largest aligned runs of free units, and the first of them that is large enough.
-use Rattle.std.specs.Prelude.{◌≡◌, ◌≤◌, ◌<◌, ℕ, suc, ◌+◌, ◌%◌, ◌^◌, Bool, false, cond, ◌&&◌, ◌==◌, nat_lt, List, Option, Some, None}
-use Rattle.space_model.specs.Runs.{Run, run, end_of}
+use Rattle.std.specs.Prelude.{◌≡◌, ◌≤◌, ◌<◌, ◌⊎◌, ℕ, ◌%◌, ◌^◌, cond, nat_lt, nat_le, List, Option, Some, None}
+use Rattle.space_model.specs.Runs.{Run, end_of}
 use Rattle.space_model.specs.Apart.{Precedes}
 use Rattle.buddy_space.specs.declared.marks.Mark.{Mark}
 use Rattle.buddy_space.specs.declared.marks.Run.{Run as UnitRun}
-use Rattle.buddy_space.specs.Marks.{AreFree, run_of}
+use Rattle.buddy_space.specs.declared.marks.Mark.TheVariants.{Free}
+use Rattle.buddy_space.specs.Marks.{mark_at, AreFree, run_of}
 
 -- a run of free units that lies in no larger one, of at most this exponent
 pub record IsPiece (largest : ℕ) (marks : List Mark) (r : Run) : Type 0 where
@@ -32,10 +33,22 @@ better None upper = upper
 better (Some l) None = Some l
 better (Some l) (Some u) = cond (nat_lt u.exp l.exp) (Some u) (Some l)
 
-abbrev pub is_whole : ℕ → Option UnitRun → Bool
-is_whole exp None = false
-is_whole exp (Some r) = r.exp == exp
+-- the same with a piece above, where it is large enough
+abbrev pub with_piece : Option UnitRun → UnitRun → ℕ → Option UnitRun
+with_piece best piece wanted = cond (nat_le wanted piece.exp) (better best (Some piece)) best
 
--- the same of two halves from a unit on, which together are one piece where both are wholly free
-abbrev pub joined : ℕ → ℕ → Option UnitRun → Option UnitRun → Option UnitRun
-joined unit half lower upper = cond (is_whole half lower && is_whole half upper) (Some (record { unit = unit; exp = half + 1 })) (better lower upper)
+-- ---- stretches of free units
+
+-- no aligned run of free units lies on both sides of a unit's beginning
+abbrev pub IsCut : List Mark → ℕ → Type 0
+IsCut marks unit = (q : Run) → q.exp ≤ 12 → q.unit % 2 ^ q.exp ≡ 0 → AreFree marks q → (end_of q ≤ unit) ⊎ (unit ≤ q.unit)
+
+-- units are free until one that is not
+pub record IsFreeUntil (marks : List Mark) (first end : ℕ) : Type 0 where
+  pub free : (unit : ℕ) → first ≤ unit → unit < end → mark_at marks unit ≡ Free
+  pub ends : mark_at marks end ≡ Free → ⊥
+
+-- and no aligned run of free units reaches below the first of them
+pub record IsStretch (marks : List Mark) (first end : ℕ) : Type 0 where
+  pub cut : IsCut marks first
+  pub until : IsFreeUntil marks first end

@@ -1,72 +1,87 @@
 //! The search for the place of a run.
-ghost use Rattle.std.specs.Prelude.{◌≡◌, ◌≤◌, ◌<◌, ℕ, ◌+◌, ◌*◌, ◌%◌, ◌^◌, length};
-ghost use Rattle.buddy_space.specs.Pieces.{IsBest, is_whole, better, joined};
+ghost use Rattle.std.specs.Prelude.{◌≡◌, ◌≢◌, ◌≤◌, ◌<◌, ◌⊎◌, ℕ, ◌+◌, ◌%◌, ◌^◌, List, length};
+ghost use Rattle.buddy_space.specs.Marks.{mark_at};
+ghost use Rattle.buddy_space.specs.Pieces.{IsFreeUntil, IsStretch, IsBest, better, with_piece};
 
-use crate::marks::{Mark, Run, are_free, size_of};
+use crate::marks::{Mark, Run, size_of};
 
-/// The first of the smallest pieces of at least the wanted exponent in all segments.
-pub(crate) fn best_of_all(marks: &[Mark], segments: u32, wanted: u8) -> Option<Run>
-    requires wanted { wanted ≤ 12 }
-    requires segments { segments ≤ 8000 }
-    requires whole { length marks.now ≡ 4096 * segments }
-    ensures { IsBest 12 marks.now wanted 0 (4096 * segments) result }
+/// The exponent of the largest run.
+const LARGEST_EXP: u8 = 12;
+
+/// The first of the smallest pieces of at least the wanted exponent. Each unit is looked at once.
+pub(crate) fn best_of_all(marks: &[Mark], wanted: u8) -> Option<Run>
+    requires { length marks.now < 2 ^ 32 }
+    ensures { IsBest 12 marks.now wanted 0 (length marks.now) result }
 {
     let mut best = None;
-    for segment in 0..segments {
-        let run = Run {
-            unit: segment as usize * 4096,
-            exp: 12,
-        };
-        best = better(best, best_of(marks, run, wanted));
+    let mut unit = 0;
+    while unit < marks.len() {
+        let end = free_until(marks, unit);
+        best = better(best, best_of_stretch(unit, end, wanted));
+        unit = end + 1;
     }
     best
 }
 
-/// The same in one run. Each unit is looked at once.
-fn best_of(marks: &[Mark], run: Run, wanted: u8) -> Option<Run>
-    requires wanted { wanted ≤ run.exp }
-    requires exp { run.exp ≤ 12 }
-    requires aligned { run.unit % 2 ^ run.exp ≡ 0 }
-    requires ends { run.unit + 2 ^ run.exp ≤ length marks.now }
-    ensures { IsBest run.exp marks.now wanted run.unit (run.unit + 2 ^ run.exp) result }
+/// The first unit from this one on that is not free, or the end.
+fn free_until(marks: &[Mark], first: usize) -> usize
+    requires { first ≤ length marks.now }
+    ensures free { IsFreeUntil marks.now first result }
+    ensures low { first ≤ result }
+    ensures high { result ≤ length marks.now }
 {
-    if run.exp == wanted {
-        return if are_free(marks, run) { Some(run) } else { None };
+    for unit in first..marks.len() {
+        if !matches!(marks[unit], Mark::Free) {
+            return unit;
+        }
     }
-    let half = run.exp - 1;
-    let lower = Run {
-        unit: run.unit,
-        exp: half,
-    };
-    let upper = Run {
-        unit: run.unit + size_of(half),
-        exp: half,
-    };
-    joined(run.unit, half, best_of(marks, lower, wanted), best_of(marks, upper, wanted))
+    marks.len()
 }
 
-/// The best of two halves, or both together where both are wholly free.
-fn joined(unit: usize, half: u8, lower: Option<Run>, upper: Option<Run>) -> Option<Run>
-    requires { half < 12 }
-    ensures { result ≡ joined unit half lower upper }
+/// The same of free units between two that are not free.
+fn best_of_stretch(first: usize, end: usize, wanted: u8) -> Option<Run>
+    requires first { first ≤ end }
+    requires end { end < 2 ^ 32 }
+    ensures { (marks : List Mark) → IsStretch marks first end → IsBest 12 marks wanted first end result }
 {
-    if is_whole(half, lower) && is_whole(half, upper) {
-        Some(Run {
-            unit,
-            exp: half + 1,
-        })
+    let mut best = None;
+    let mut unit = first;
+    while unit < end {
+        let exp = exp_of_piece(unit, end);
+        best = with_piece(best, Run { unit, exp }, wanted);
+        unit += size_of(exp);
+    }
+    best
+}
+
+/// The exponent of the largest aligned run from a unit on that ends by this end.
+fn exp_of_piece(unit: usize, end: usize) -> u8
+    requires unit { unit < end }
+    requires end { end < 2 ^ 32 }
+    ensures most { result ≤ 12 }
+    ensures aligned { unit % 2 ^ result ≡ 0 }
+    ensures ends { unit + 2 ^ result ≤ end }
+    ensures largest { (result ≡ 12) ⊎ ((unit % 2 ^ (result + 1) ≢ 0) ⊎ (end < unit + 2 ^ (result + 1))) }
+{
+    let mut exp = 0;
+    while exp < LARGEST_EXP {
+        let size = size_of(exp + 1);
+        if unit % size != 0 || end < unit + size {
+            return exp;
+        }
+        exp += 1;
+    }
+    exp
+}
+
+/// The better of a lower run and a piece, if the piece has at least the wanted exponent.
+fn with_piece(best: Option<Run>, piece: Run, wanted: u8) -> Option<Run>
+    ensures { result ≡ with_piece best piece wanted }
+{
+    if wanted <= piece.exp {
+        better(best, Some(piece))
     } else {
-        better(lower, upper)
-    }
-}
-
-/// Whether the best of a run is the run.
-fn is_whole(exp: u8, best: Option<Run>) -> bool
-    ensures { result ≡ is_whole exp best }
-{
-    match best {
-        Some(run) => run.exp == exp,
-        None => false,
+        best
     }
 }
 

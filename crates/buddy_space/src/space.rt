@@ -83,7 +83,7 @@ impl Space {
         ensures taken { MatchOption result (self.new ≡ self.old) (λ unit. self.new ≡ taking self.old (run unit exp)) }
         ensures parted { IsParted self.new }
     {
-        let best = best_of_all(&self.marks, self.segments, exp)?;
+        let best = best_of_all(&self.marks, exp)?;
         mark_taken(
             &mut self.marks,
             Run {

@@ -1,6 +1,9 @@
-use Rattle.std.proofs.Common.{◌*◌}
-use Rattle.buddy_space.specs.Pieces.{IsBest}
+use Rattle.std.proofs.Common.{◌-◌, length}
+use Rattle.buddy_space.proofs.Stretches.{IsFound}
 use Rattle.buddy_space.proofs.search.best_of_all.Given as goal
 
-abbrev pub invariant-loop-segment : goal.invariant-loop-segment
-invariant-loop-segment l = IsBest 12 l.marks l.wanted 0 (4096 * l.segment) l.best
+abbrev pub invariant-loop-unit : goal.invariant-loop-unit
+invariant-loop-unit l = IsFound l.marks l.wanted l.unit l.best
+
+abbrev pub decreases-loop-unit : goal.decreases-loop-unit
+decreases-loop-unit l = length l.marks - l.unit
