@@ -36,10 +36,10 @@ fn deferred_runs_are_held_until_they_are_settled(rt: HostRuntime) -> Result<(), 
 #[test]
 fn many_units_are_taken_in_order(rt: HostRuntime) -> Result<(), Fail> {
     let mut space = Space::new(rt.alloc());
-    for _ in 0..25 {
+    for _ in 0..25u32 {
         space.add_segment()?;
     }
-    for unit in 0..1000 {
+    for unit in 0..1000u32 {
         assert_eq!(rt; space.take(0), Some(unit));
     }
     Ok(())
