@@ -1,22 +1,20 @@
 -- What marks that change make of the state that callers see.
-use Rattle.std.proofs.Common.{◌≡◌, ◌≤◌, ◌<◌, ◌≢◌, ◌⊎◌, inl, inr, ⊎_elim, ℕ, zero, suc, ◌+◌, ◌-◌, ◌*◌, ◌^◌, Bool, true, false, cond, List, [], ◌∷◌, ◌++◌, map, filter, length}
-use Rattle.std.proofs.Common.{Option, Some, None, replicate, refl, sym, ap, ◌∙◌, subst, arith}
-use Rattle.std.specs.Prelude.{not, ◌&&◌, ◌==◌}
-use Rattle.std.proofs.lemmas.List.{get_or_append_left, get_or-append_right, get_or-replicate, length-append, length-replicate}
+use Rattle.std.proofs.Common.{◌≡◌, ◌≤◌, ◌<◌, ◌≢◌, ◌⊎◌, inl, inr, ⊎_elim, ℕ, ◌*◌, Bool, true, false, cond, List, [], ◌∷◌, map, length}
+use Rattle.std.proofs.Common.{Option, Some, None, refl, sym, ap, ◌∙◌, subst, arith}
+use Rattle.std.specs.Prelude.{not, ◌==◌}
 use Rattle.std.proofs.lemmas.Nat.{pow_pos}
-use Rattle.std.proofs.lemmas.Bool.{cases_Bool, cases_lt, cases_order, and_parts}
+use Rattle.std.proofs.lemmas.Bool.{cases_lt, cases_order, and_parts}
 use Rattle.space_model.specs.Runs.{Run, run, end_of}
 use Rattle.space_model.specs.Apart.{In, Pairs, Apart, IsRun}
-use Rattle.space_model.proofs.Members.{in_append, in_front, in_behind, pairs_front, pairs_cross}
+use Rattle.space_model.proofs.Members.{in_append, in_front, in_behind, pairs_front}
 use Rattle.buddy_space.specs.declared.marks.Mark.{Mark}
 use Rattle.buddy_space.specs.declared.marks.Mark.TheVariants.{Free, Taken, Held}
 use Rattle.buddy_space.specs.declared.marks.Run.{Run as UnitRun}
-use Rattle.buddy_space.specs.SpaceState.{SpaceState, most_segments, largest_exp, units, held, IsParted, with_run, is_same, without, with_segment, taking, giving}
-use Rattle.buddy_space.specs.SpaceState.{deferring, settling}
-use Rattle.buddy_space.specs.Marks.{mark_at, begun, with_begun, taken_from, run_of, Has, IsOutside, AreFree, IsFilled, IsTaken, IsReleased, seen, IsMarked}
-use Rattle.buddy_space.proofs.Begun.{begun_at, begins_at, is_taken, taken_same, taken_more, taken_fewer}
-use Rattle.buddy_space.proofs.Parted.{in_with_run, with_run_in, with_run_new, in_without, one_or_apart, others_apart, parted_taking, parted_giving, parted_deferring}
-use Rattle.buddy_space.proofs.Parted.{parted_settling, parted_with_segment, free_apart}
+use Rattle.buddy_space.specs.SpaceState.{SpaceState, largest_exp, units, with_run, is_same, without, taking, giving}
+use Rattle.buddy_space.specs.Marks.{mark_at, begun, taken_from, run_of, Has, IsOutside, AreFree, IsFilled, IsTaken, seen, IsMarked}
+use Rattle.buddy_space.proofs.Begun.{begun_at, begins_at, is_taken, taken_more, taken_fewer}
+use Rattle.buddy_space.proofs.Parted.{in_with_run, with_run_in, with_run_new, in_without, one_or_apart, others_apart, parted_taking, parted_giving}
+use Rattle.buddy_space.proofs.Parted.{free_apart}
 use Rattle.buddy_space.proofs.Freed.{outside, free_by_marks}
 
 -- ---- units
@@ -66,18 +64,18 @@ marked_taking marks new s r is run free long took = record {
   free = λ u q e a has. ⊎_elim
       (λ here. taken_no_free marks new r u took here e)
       (λ out. ⊎_elim
-          (λ b. ⊎_elim
-              (λ same. not_both r u out (subst (λ x. Has x u) (sym same) has))
-              (λ old. is.free u q (sym (took.outside u out) ∙ e) (in_front s.taken s.deferred q old) has)
-              (in_with_run r s.taken q b))
-          (λ b. is.free u q (sym (took.outside u out) ∙ e) (in_behind s.taken s.deferred q b) has)
-          (in_append (with_run r s.taken) s.deferred q a))
+      (λ b. ⊎_elim
+      (λ same. not_both r u out (subst (λ x. Has x u) (sym same) has))
+      (λ old. is.free u q (sym (took.outside u out) ∙ e) (in_front s.taken s.deferred q old) has)
+      (in_with_run r s.taken q b))
+      (λ b. is.free u q (sym (took.outside u out) ∙ e) (in_behind s.taken s.deferred q b) has)
+      (in_append (with_run r s.taken) s.deferred q a))
       (in_or_out r u);
   held = λ u l none. ⊎_elim
       (λ here. absurd (none r (in_front (with_run r s.taken) s.deferred r (with_run_new r s.taken)) here))
       (λ out. took.outside u out ∙ is.held u l (λ q a has. none q (⊎_elim
-          (λ b. in_front (with_run r s.taken) s.deferred q (with_run_in r s.taken q b)) (λ b. in_behind (with_run r s.taken) s.deferred q b)
-          (in_append s.taken s.deferred q a)) has))
+      (λ b. in_front (with_run r s.taken) s.deferred q (with_run_in r s.taken q b)) (λ b. in_behind (with_run r s.taken) s.deferred q b)
+      (in_append s.taken s.deferred q a)) has))
       (in_or_out r u);
 }
 
@@ -152,18 +150,18 @@ marked_giving marks new s r is taken long filled = record {
   free = λ u q e a has. ⊎_elim
       (λ here. outside r q u (others_apart s r q is.parted taken a) here has)
       (λ out. is.free u q (sym (filled.outside u out) ∙ e) (⊎_elim
-          (λ b. in_front s.taken s.deferred q (in_without r s.taken q b)) (λ b. in_behind s.taken s.deferred q b)
-          (in_append (without r s.taken) s.deferred q a)) has)
+      (λ b. in_front s.taken s.deferred q (in_without r s.taken q b)) (λ b. in_behind s.taken s.deferred q b)
+      (in_append (without r s.taken) s.deferred q a)) has)
       (in_or_out r u);
   held = λ u l none. ⊎_elim
       (λ here. filled.inside u here.0 here.1)
       (λ out. filled.outside u out ∙ is.held u l (λ q a has. ⊎_elim
-          (λ b. ⊎_elim
-              (λ same. not_both r u out (subst (λ x. Has x u) (sym same) has))
-              (λ old. none q (in_front (without r s.taken) s.deferred q old) has)
-              (same_or_in r s.taken q b))
-          (λ b. none q (in_behind (without r s.taken) s.deferred q b) has)
-          (in_append s.taken s.deferred q a)))
+      (λ b. ⊎_elim
+      (λ same. not_both r u out (subst (λ x. Has x u) (sym same) has))
+      (λ old. none q (in_front (without r s.taken) s.deferred q old) has)
+      (same_or_in r s.taken q b))
+      (λ b. none q (in_behind (without r s.taken) s.deferred q b) has)
+      (in_append s.taken s.deferred q a)))
       (in_or_out r u);
 }
 

@@ -1,17 +1,17 @@
 -- What deferred and settled runs, and one more segment, make of the state that callers see.
-use Rattle.std.proofs.Common.{◌≡◌, ◌≤◌, ◌<◌, ◌≢◌, ◌⊎◌, inl, inr, ⊎_elim, ℕ, zero, suc, ◌+◌, ◌-◌, ◌*◌, ◌^◌, Bool, true, false, cond, List, [], ◌∷◌, ◌++◌, map, filter, length}
-use Rattle.std.proofs.Common.{Option, Some, None, replicate, refl, sym, ap, ◌∙◌, subst, arith}
-use Rattle.std.proofs.lemmas.List.{get_or_append_left, get_or-append_right, get_or-replicate, length-append, length-replicate, length_push, map-append}
+use Rattle.std.proofs.Common.{◌≡◌, ◌≤◌, ◌<◌, ◌≢◌, ◌⊎◌, inl, inr, ⊎_elim, ℕ, zero, suc, ◌+◌, ◌-◌, List, [], ◌∷◌, ◌++◌, map, length}
+use Rattle.std.proofs.Common.{replicate, refl, sym, ap, ◌∙◌, subst, arith}
+use Rattle.std.proofs.lemmas.List.{get_or_append_left, get_or-append_right, get_or-replicate, length-append, length-replicate, map-append}
 use Rattle.std.proofs.lemmas.Nat.{pow_pos}
 use Rattle.std.proofs.lemmas.Bool.{cases_lt, cases_order}
-use Rattle.space_model.specs.Runs.{Run, run, end_of}
-use Rattle.space_model.specs.Apart.{In, Pairs, Apart, IsRun}
-use Rattle.space_model.proofs.Members.{in_append, in_front, in_behind, pairs_front, pairs_cross}
+use Rattle.space_model.specs.Runs.{Run, run}
+use Rattle.space_model.specs.Apart.{In, Pairs, Apart}
+use Rattle.space_model.proofs.Members.{in_append, in_front, in_behind, pairs_cross}
 use Rattle.buddy_space.specs.declared.marks.Mark.{Mark}
-use Rattle.buddy_space.specs.declared.marks.Mark.TheVariants.{Free, Taken, Held}
+use Rattle.buddy_space.specs.declared.marks.Mark.TheVariants.{Free, Held}
 use Rattle.buddy_space.specs.declared.marks.Run.{Run as UnitRun}
-use Rattle.buddy_space.specs.SpaceState.{SpaceState, most_segments, largest_exp, units, held, IsParted, without, with_segment, deferring, settling}
-use Rattle.buddy_space.specs.Marks.{mark_at, begun, with_begun, taken_from, run_of, Has, IsOutside, AreFree, IsFilled, IsReleased, seen, IsMarked}
+use Rattle.buddy_space.specs.SpaceState.{SpaceState, most_segments, without, with_segment, deferring, settling}
+use Rattle.buddy_space.specs.Marks.{mark_at, begun, with_begun, taken_from, run_of, Has, IsOutside, IsFilled, IsReleased, seen, IsMarked}
 use Rattle.buddy_space.proofs.Begun.{begun_at, begins_at, is_taken, taken_same, taken_fewer}
 use Rattle.buddy_space.proofs.Parted.{in_without, parted_deferring, parted_settling, parted_with_segment}
 use Rattle.buddy_space.proofs.Freed.{outside}
@@ -98,11 +98,14 @@ released_more old mid new runs r is filled = record {
   each = λ u. ⊎_elim
       (λ here. inl (filled.inside u here.0 here.1, (r, in_behind runs (r ∷ []) r (inl refl), here)))
       (λ out. ⊎_elim
-          (λ freed. let w = freed.1 in inl (filled.outside u out ∙ freed.0, (w.0, in_front runs (r ∷ []) w.0 w.1, w.2)))
-          (λ kept. inr (filled.outside u out ∙ kept.0, λ q a has. ⊎_elim
-              (λ b. kept.1 q b has)
-              (λ b. ⊎_elim (λ same. not_both r u out (subst (λ x. Has x u) (sym same) has)) (λ none. absurd none) b) (in_append runs (r ∷ []) q a)))
-          (is.each u))
+      (λ freed. let w = freed.1 in inl (filled.outside u out ∙ freed.0, (w.0, in_front runs (r ∷ []) w.0 w.1, w.2)))
+      (λ kept. inr (
+        filled.outside u out ∙ kept.0,
+        λ q a has. ⊎_elim
+            (λ b. kept.1 q b has)
+            (λ b. ⊎_elim (λ same. not_both r u out (subst (λ x. Has x u) (sym same) has)) (λ none. absurd none) b) (in_append runs (r ∷ []) q a),
+      ))
+      (is.each u))
       (in_or_out r u);
 }
 
@@ -122,13 +125,13 @@ marked_settling marks new s is long released = record {
   parted = parted_settling s is.parted;
   free = λ u q e a has. ⊎_elim
       (λ b. ⊎_elim
-          (λ freed. let w = freed.1 in outside q w.0 u (pairs_cross Apart s.taken s.deferred is.parted.apart q w.0 b w.1) has w.2)
-          (λ kept. is.free u q (sym kept.0 ∙ e) (in_front s.taken s.deferred q b) has) (released.each u))
+      (λ freed. let w = freed.1 in outside q w.0 u (pairs_cross Apart s.taken s.deferred is.parted.apart q w.0 b w.1) has w.2)
+      (λ kept. is.free u q (sym kept.0 ∙ e) (in_front s.taken s.deferred q b) has) (released.each u))
       (λ none. absurd none) (in_append s.taken [] q a);
   held = λ u l none. ⊎_elim
       (λ freed. freed.0)
       (λ kept. kept.0 ∙ is.held u l (λ q a has. ⊎_elim
-          (λ b. none q (in_front s.taken [] q b) has) (λ b. kept.1 q b has) (in_append s.taken s.deferred q a)))
+      (λ b. none q (in_front s.taken [] q b) has) (λ b. kept.1 q b has) (in_append s.taken s.deferred q a)))
       (released.each u);
 }
 
@@ -162,10 +165,10 @@ marked_segment marks s is few = record {
       is.free u q (sym (get_or_append_left marks (replicate 4096 Free) Held u within) ∙ e) a has;
   held = λ u l none. let w = is.whole in ⊎_elim
       (λ (x : u < length marks).
-          get_or_append_left marks (replicate 4096 Free) Held u x ∙ is.held u (omega (arith, w, x)) none)
+      get_or_append_left marks (replicate 4096 Free) Held u x ∙ is.held u (omega (arith, w, x)) none)
       (λ (x : length marks ≤ u).
-          get_or-append_right marks (replicate 4096 Free) (length marks) u Held refl x
-          ∙ get_or-replicate 4096 (u - length marks) Free Held (omega (arith, w, l, x)))
+      get_or-append_right marks (replicate 4096 Free) (length marks) u Held refl x
+      ∙ get_or-replicate 4096 (u - length marks) Free Held (omega (arith, w, l, x)))
       (cases_lt u (length marks));
 }
 

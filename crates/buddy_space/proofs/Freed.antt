@@ -1,15 +1,15 @@
 -- A run is free just where all its units are marked so.
-use Rattle.std.proofs.Common.{◌≡◌, ◌≤◌, ◌<◌, ◌⊎◌, inl, inr, ⊎_elim, ℕ, suc, ◌+◌, ◌-◌, ◌^◌, Bool, true, false, List, [], ◌∷◌, length, refl, sym, ap, ◌∙◌, subst, arith}
-use Rattle.std.specs.Prelude.{not, ◌&&◌, nat_le, nat_lt}
+use Rattle.std.proofs.Common.{◌≡◌, ◌≤◌, ◌<◌, inl, inr, ⊎_elim, ℕ, ◌-◌, true, false, List, [], ◌∷◌, length, refl, arith}
+use Rattle.std.specs.Prelude.{nat_lt}
 use Rattle.std.specs.List.{list_any}
 use Rattle.std.proofs.lemmas.List.{get_or_past}
 use Rattle.std.proofs.lemmas.Nat.{pow_pos}
 use Rattle.std.proofs.lemmas.Bool.{cases_lt, and_from, and_left, and_right, or_from, le-leb, le-ltb, not_from_false}
-use Rattle.space_model.specs.Runs.{Run, run, end_of, meets, is_free}
+use Rattle.space_model.specs.Runs.{Run, end_of, meets, is_free}
 use Rattle.space_model.specs.Apart.{In, Apart}
 use Rattle.space_model.proofs.FreeRuns.{free_run}
 use Rattle.buddy_space.specs.declared.marks.Mark.{Mark}
-use Rattle.buddy_space.specs.declared.marks.Mark.TheVariants.{Free, Taken, Held}
+use Rattle.buddy_space.specs.declared.marks.Mark.TheVariants.{Free, Held}
 use Rattle.buddy_space.specs.SpaceState.{SpaceState, units, held}
 use Rattle.buddy_space.specs.Marks.{mark_at, Has, AreFree, IsMarked}
 

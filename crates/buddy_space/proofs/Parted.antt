@@ -1,16 +1,15 @@
 -- Free, deferred and taken runs part the units after each change.
-use Rattle.std.proofs.Common.{◌≡◌, ◌≤◌, ◌<◌, ◌≢◌, ◌⊎◌, inl, inr, ⊎_elim, ℕ, suc, ◌+◌, ◌*◌, ◌%◌, ◌^◌, Bool, true, false, cond, List, [], ◌∷◌, ◌++◌, filter, refl}
+use Rattle.std.proofs.Common.{◌≡◌, ◌≤◌, ◌<◌, ◌≢◌, ◌⊎◌, inl, inr, ⊎_elim, Bool, true, false, cond, List, [], ◌∷◌, ◌++◌, refl}
 use Rattle.std.proofs.Common.{sym, ap, ◌∙◌, subst, arith}
-use Rattle.std.specs.Prelude.{not, ◌&&◌, ◌==◌, nat_lt}
-use Rattle.std.proofs.Math.Nat.{mul-le-mul_left}
+use Rattle.std.specs.Prelude.{not, nat_lt}
 use Rattle.std.proofs.lemmas.Nat.{pow_pos}
-use Rattle.std.proofs.lemmas.Bool.{cases_lt, ltb-true, ltb-false, both_ways, not-true, and_parts}
-use Rattle.space_model.specs.Runs.{Run, run, end_of, is_free}
+use Rattle.std.proofs.lemmas.Bool.{ltb-true, ltb-false, both_ways, not-true}
+use Rattle.space_model.specs.Runs.{Run, end_of, is_free}
 use Rattle.space_model.specs.Apart.{In, Pairs, Apart, IsRun}
 use Rattle.space_model.proofs.Members.{in_append, in_front, in_behind, in_filter, filter_passes, pairs_append, pairs_front, pairs_behind, pairs_cross, pairs_filter}
 use Rattle.space_model.proofs.FreeRuns.{free_run}
 use Rattle.space_model.proofs.Serving.{swapped, wider}
-use Rattle.buddy_space.specs.SpaceState.{SpaceState, most_segments, largest_exp, units, held, is_free_run, Before, IsParted, with_run, is_same, without}
+use Rattle.buddy_space.specs.SpaceState.{SpaceState, most_segments, largest_exp, units, held, Before, IsParted, with_run, is_same, without}
 use Rattle.buddy_space.specs.SpaceState.{with_segment, taking, giving, deferring, settling}
 use Rattle.buddy_space.proofs.Begun.{same_self}
 
@@ -58,9 +57,11 @@ apart_with_run r (q ∷ qs) apart p =
 ascends_first : (b : Bool) (r q : Run) (qs rest : List Run) → nat_lt r.unit q.unit ≡ b → r.unit ≢ q.unit → Pairs Before (q ∷ qs) → Pairs Before rest
     → ((x : Run) → In x rest → (r ≡ x) ⊎ In x qs) → Pairs Before (cond b (r ∷ q ∷ qs) (q ∷ rest))
 ascends_first true r q qs rest is ne p go parts =
-    let less = ltb-true r.unit q.unit is in
-    (λ x a. ⊎_elim
-    (λ here. let same = ap (λ (y : Run). y.unit) here in omega (arith, less, same)) (λ old. let more = p.0 x old in omega (arith, less, more)) a, p)
+    let less = ltb-true r.unit q.unit is in (
+      λ x a. ⊎_elim
+          (λ here. let same = ap (λ (y : Run). y.unit) here in omega (arith, less, same)) (λ old. let more = p.0 x old in omega (arith, less, more)) a,
+      p,
+    )
 ascends_first false r q qs rest is ne p go parts =
     let low = ltb-false r.unit q.unit is in
     let less : q.unit < r.unit = omega (arith, low, ne) in
@@ -115,8 +116,8 @@ parted_taking s r parted is apart = record {
       (apart_with_run r s.taken (λ x a. apart x (in_front s.taken s.deferred x a)) (pairs_front Apart s.taken s.deferred parted.apart))
       (pairs_behind Apart s.taken s.deferred parted.apart)
       (λ x y a b. ⊎_elim
-          (λ new. subst (λ z. Apart z y) new (apart y (in_behind s.taken s.deferred y b)))
-          (λ old. pairs_cross Apart s.taken s.deferred parted.apart x y old b) (in_with_run r s.taken x a));
+      (λ new. subst (λ z. Apart z y) new (apart y (in_behind s.taken s.deferred y b)))
+      (λ old. pairs_cross Apart s.taken s.deferred parted.apart x y old b) (in_with_run r s.taken x a));
   ascending = ascends_with_run r s.taken (λ x a. not_at r x (apart x (in_front s.taken s.deferred x a))) parted.ascending;
 }
 
@@ -139,22 +140,22 @@ parted_deferring s r parted taken = record {
   runs = λ q a. ⊎_elim
       (λ b. parted.runs q (in_front s.taken s.deferred q (in_without r s.taken q b)))
       (λ b. ⊎_elim
-          (λ old. parted.runs q (in_behind s.taken s.deferred q old))
-          (λ new. ⊎_elim (λ same. subst (λ x. IsRun largest_exp (units s) x) same (parted.runs r (in_front s.taken s.deferred r taken))) (λ none. absurd none) new)
-          (in_append s.deferred (r ∷ []) q b))
+      (λ old. parted.runs q (in_behind s.taken s.deferred q old))
+      (λ new. ⊎_elim (λ same. subst (λ x. IsRun largest_exp (units s) x) same (parted.runs r (in_front s.taken s.deferred r taken))) (λ none. absurd none) new)
+      (in_append s.deferred (r ∷ []) q b))
       (in_append (without r s.taken) (s.deferred ++ r ∷ []) q a);
   apart = pairs_append Apart (without r s.taken) (s.deferred ++ r ∷ [])
       (pairs_filter Apart (λ q. not (is_same r q)) s.taken (pairs_front Apart s.taken s.deferred parted.apart))
       (pairs_append Apart s.deferred (r ∷ []) (pairs_behind Apart s.taken s.deferred parted.apart) (λ y b. absurd b, tt)
-          (λ x y a b. ⊎_elim
-              (λ same. subst (λ z. Apart x z) same (swapped r x (pairs_cross Apart s.taken s.deferred parted.apart r x taken a)))
-              (λ none. absurd none) b))
       (λ x y a b. ⊎_elim
-          (λ old. pairs_cross Apart s.taken s.deferred parted.apart x y (in_without r s.taken x a) old)
-          (λ new. ⊎_elim
-              (λ same. subst (λ z. Apart x z) same (swapped r x (others_apart s r x parted taken (in_front (without r s.taken) s.deferred x a))))
-              (λ none. absurd none) new)
-          (in_append s.deferred (r ∷ []) y b));
+      (λ same. subst (λ z. Apart x z) same (swapped r x (pairs_cross Apart s.taken s.deferred parted.apart r x taken a)))
+      (λ none. absurd none) b))
+      (λ x y a b. ⊎_elim
+      (λ old. pairs_cross Apart s.taken s.deferred parted.apart x y (in_without r s.taken x a) old)
+      (λ new. ⊎_elim
+      (λ same. subst (λ z. Apart x z) same (swapped r x (others_apart s r x parted taken (in_front (without r s.taken) s.deferred x a))))
+      (λ none. absurd none) new)
+      (in_append s.deferred (r ∷ []) y b));
   ascending = pairs_filter Before (λ q. not (is_same r q)) s.taken parted.ascending;
 }
 
@@ -178,5 +179,3 @@ parted_with_segment s parted few = record {
 
 pub free_apart : (s : SpaceState) (r q : Run) → is_free (units s) (held s) r ≡ true → In q (held s) → Apart r q
 free_apart s r q free a = (free_run (units s) (held s) r free).1 q a
-
-

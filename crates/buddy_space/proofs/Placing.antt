@@ -1,19 +1,19 @@
 -- The best piece of all segments is the place of the definition.
-use Rattle.std.proofs.Common.{◌≡◌, ◌≤◌, ◌<◌, ◌⊎◌, inl, inr, ⊎_elim, ℕ, zero, suc, ◌+◌, ◌-◌, ◌*◌, ◌/◌, ◌%◌, ◌^◌, Bool, true, false, List, [], ◌∷◌, Option, Some, None}
-use Rattle.std.proofs.Common.{refl, sym, ap, ◌∙◌, subst, arith}
-use Rattle.std.specs.Prelude.{not, ◌&&◌, option_map}
+use Rattle.std.proofs.Common.{◌≡◌, ◌≤◌, ◌<◌, ⊎_elim, ℕ, zero, suc, ◌+◌, ◌-◌, ◌/◌, ◌%◌, ◌^◌, Bool, true, List, Option, Some, None}
+use Rattle.std.proofs.Common.{refl, ap, arith}
+use Rattle.std.specs.Prelude.{not, option_map}
 use Rattle.std.specs.List.{list_all, range_with_len}
 use Rattle.std.proofs.lemmas.Nat.{pow_pos, div-add-mod', mod_below}
-use Rattle.std.proofs.lemmas.Bool.{cases_Bool, cases_lt, both_ways, and_parts, and_from, not_from_false, false_from_ne_true}
+use Rattle.std.proofs.lemmas.Bool.{both_ways, and_parts, and_from, not_from_false, false_from_ne_true}
 use Rattle.space_model.specs.Sizes.{segment_units}
-use Rattle.space_model.specs.Runs.{Run, run, end_of, is_free, run_around, is_maximal, front_of_smallest, place}
-use Rattle.space_model.specs.Apart.{In, Apart, IsRun, HasRoom, Precedes, IsPlace}
+use Rattle.space_model.specs.Runs.{Run, run, end_of, is_free, run_around, front_of_smallest, place}
+use Rattle.space_model.specs.Apart.{HasRoom, Precedes}
 use Rattle.space_model.proofs.FreeRuns.{aligned_times, larger_not_free}
 use Rattle.space_model.proofs.Places.{place_is, no_place}
 use Rattle.buddy_space.specs.declared.marks.Mark.{Mark}
 use Rattle.buddy_space.specs.declared.marks.Run.{Run as UnitRun}
 use Rattle.buddy_space.specs.SpaceState.{SpaceState, largest_exp, units, held}
-use Rattle.buddy_space.specs.Marks.{AreFree, run_of, IsMarked}
+use Rattle.buddy_space.specs.Marks.{run_of, IsMarked}
 use Rattle.buddy_space.specs.Pieces.{IsPiece, IsFirst, IsBest}
 use Rattle.buddy_space.proofs.Nests.{nests}
 use Rattle.buddy_space.proofs.Freed.{free_by_marks, marks_by_free, ends_within}

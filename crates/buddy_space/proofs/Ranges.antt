@@ -1,15 +1,14 @@
 -- The best piece of a range from those of its two parts.
-use Rattle.std.proofs.Common.{◌≡◌, ◌≤◌, ◌<◌, ◌⊎◌, inl, inr, ⊎_elim, ℕ, suc, ◌+◌, ◌-◌, ◌*◌, ◌%◌, ◌^◌, Bool, true, false, cond, List, Option, Some, None, refl}
-use Rattle.std.proofs.Common.{sym, ap, ◌∙◌, subst, arith}
-use Rattle.std.specs.Prelude.{◌&&◌, ◌==◌, nat_lt}
+use Rattle.std.proofs.Common.{◌≡◌, ◌≤◌, ◌<◌, ◌⊎◌, inl, inr, ⊎_elim, ℕ, Bool, true, false, cond, List, Option, Some, None, refl}
+use Rattle.std.proofs.Common.{arith}
+use Rattle.std.specs.Prelude.{nat_lt}
 use Rattle.std.proofs.lemmas.Nat.{pow_pos}
-use Rattle.std.proofs.Math.Pow.{pow_mono}
-use Rattle.std.proofs.lemmas.Bool.{cases_lt, cases_order, ltb-true, ltb-false, and_parts, and_cases}
-use Rattle.space_model.specs.Runs.{Run, run, end_of}
-use Rattle.space_model.specs.Apart.{Apart, Precedes}
+use Rattle.std.proofs.lemmas.Bool.{cases_lt, ltb-true, ltb-false}
+use Rattle.space_model.specs.Runs.{Run, end_of}
+use Rattle.space_model.specs.Apart.{Precedes}
 use Rattle.buddy_space.specs.declared.marks.Mark.{Mark}
 use Rattle.buddy_space.specs.declared.marks.Run.{Run as UnitRun}
-use Rattle.buddy_space.specs.Marks.{AreFree, run_of}
+use Rattle.buddy_space.specs.Marks.{run_of}
 use Rattle.buddy_space.specs.Pieces.{IsPiece, IsFirst, IsBest, better}
 
 abbrev pub Splits : ℕ → List Mark → ℕ → ℕ → ℕ → Type 0
@@ -91,4 +90,3 @@ best_of_both top marks wanted from mid end None (Some u) low high splits f g = n
 best_of_both top marks wanted from mid end (Some l) None low high splits f g = none_upper top marks wanted from mid end (run_of l) high splits f g
 best_of_both top marks wanted from mid end (Some l) (Some u) low high splits f g =
     chosen top marks wanted from mid end l u (nat_lt u.exp l.exp) refl low high splits f g
-

@@ -1,14 +1,13 @@
 -- What a change of a state makes of the runs that are free and of those that are held.
-use Rattle.std.proofs.Common.{◌≡◌, ◌≤◌, ◌<◌, ◌≢◌, ◌⊎◌, inl, inr, ⊎_elim, ℕ, suc, ◌+◌, ◌-◌, ◌*◌, ◌%◌, ◌^◌, Bool, true, false, cond, List, [], ◌∷◌, ◌++◌, Option, Some, None}
+use Rattle.std.proofs.Common.{◌≡◌, ◌≤◌, ◌<◌, ◌≢◌, ◌⊎◌, inl, inr, ⊎_elim, ℕ, ◌%◌, ◌^◌, Bool, true, false, cond, List, [], ◌∷◌, ◌++◌, Some, None}
 use Rattle.std.proofs.Common.{refl, sym, ap, ◌∙◌, subst, arith}
 use Rattle.std.specs.Prelude.{not, ◌&&◌, ◌||◌, ◌==◌, nat_le, nat_lt}
 use Rattle.std.specs.List.{list_any}
-use Rattle.std.proofs.lemmas.Nat.{pow_pos}
-use Rattle.std.proofs.lemmas.Bool.{cases_Bool, cases_lt, both_ways, and_parts, and_from, false_from_ne_true, le-leb, leb-true}
+use Rattle.std.proofs.lemmas.Bool.{both_ways, and_parts, and_from, false_from_ne_true}
 use Rattle.space_model.specs.Sizes.{segment_units}
 use Rattle.space_model.specs.Runs.{Run, run, end_of, meets, is_free, place}
 use Rattle.space_model.specs.Apart.{In, Pairs, SameMembers, Apart, IsRun}
-use Rattle.space_model.proofs.Members.{in_append, in_front, in_behind, pairs_front, pairs_cross}
+use Rattle.space_model.proofs.Members.{in_append, in_front, in_behind, pairs_cross}
 use Rattle.space_model.proofs.FreeRuns.{free_run}
 use Rattle.space_model.proofs.Places.{place_is_run, place_is_free, no_place}
 use Rattle.space_model.proofs.Reordered.{free_same, place_same}
@@ -43,9 +42,11 @@ run_is_free s r is apart =
 pub place_is_free_run : (s : SpaceState) (exp unit : ℕ) → place segment_units s.segments (held s) exp ≡ Some unit
     → (exp ≤ largest_exp) × (is_free_run s (run unit exp) ≡ true)
 place_is_free_run s exp unit found =
-    let is = place_is_run largest_exp (units s) (held s) exp unit found in
-    (is.exp, and_from (unit % 2 ^ exp == 0) (is_free (units s) (held s) (run unit exp)) (ap (λ n. n == 0) is.aligned)
-    (place_is_free largest_exp (units s) (held s) exp unit found))
+    let is = place_is_run largest_exp (units s) (held s) exp unit found in (
+      is.exp,
+      and_from (unit % 2 ^ exp == 0) (is_free (units s) (held s) (run unit exp)) (ap (λ n. n == 0) is.aligned)
+          (place_is_free largest_exp (units s) (held s) exp unit found),
+    )
 
 pub no_free_run : (s : SpaceState) (r : Run) → r.exp ≤ largest_exp → place segment_units s.segments (held s) r.exp ≡ None → is_free_run s r ≡ false
 no_free_run s r fits none = false_from_ne_true _ (λ free.
@@ -62,8 +63,8 @@ taken_held s r = record {
   back = λ q a. ⊎_elim
       (λ new. subst (λ x. In x (held (taking s r))) new (in_front (with_run r s.taken) s.deferred r (with_run_new r s.taken)))
       (λ b. ⊎_elim
-          (λ old. in_front (with_run r s.taken) s.deferred q (with_run_in r s.taken q old))
-          (λ old. in_behind (with_run r s.taken) s.deferred q old) (in_append s.taken s.deferred q b)) a;
+      (λ old. in_front (with_run r s.taken) s.deferred q (with_run_in r s.taken q old))
+      (λ old. in_behind (with_run r s.taken) s.deferred q old) (in_append s.taken s.deferred q b)) a;
 }
 
 one_fewer : (a b m c : Bool) → a && (b && not (m || c)) ≡ (a && (b && not c)) && not m
@@ -137,14 +138,14 @@ held_after_deferring s r taken = record {
   there = λ q a. ⊎_elim
       (λ b. in_front s.taken s.deferred q (in_without r s.taken q b))
       (λ b. ⊎_elim
-          (λ old. in_behind s.taken s.deferred q old)
-          (λ new. ⊎_elim (λ same. subst (λ x. In x (held s)) same (in_front s.taken s.deferred r taken)) (λ none. absurd none) new)
-          (in_append s.deferred (r ∷ []) q b))
+      (λ old. in_behind s.taken s.deferred q old)
+      (λ new. ⊎_elim (λ same. subst (λ x. In x (held s)) same (in_front s.taken s.deferred r taken)) (λ none. absurd none) new)
+      (in_append s.deferred (r ∷ []) q b))
       (in_append (without r s.taken) (s.deferred ++ r ∷ []) q a);
   back = λ q a. ⊎_elim
       (λ b. ⊎_elim
-          (λ same. in_behind (without r s.taken) (s.deferred ++ r ∷ []) q (in_behind s.deferred (r ∷ []) q (inl same)))
-          (λ old. in_front (without r s.taken) (s.deferred ++ r ∷ []) q old) (same_or_in r s.taken q b))
+      (λ same. in_behind (without r s.taken) (s.deferred ++ r ∷ []) q (in_behind s.deferred (r ∷ []) q (inl same)))
+      (λ old. in_front (without r s.taken) (s.deferred ++ r ∷ []) q old) (same_or_in r s.taken q b))
       (λ b. in_behind (without r s.taken) (s.deferred ++ r ∷ []) q (in_front s.deferred (r ∷ []) q b))
       (in_append s.taken s.deferred q a);
 }

@@ -1,19 +1,18 @@
 -- The pieces of a stretch of free units, one behind the other.
-use Rattle.std.proofs.Common.{◌≡◌, ◌≤◌, ◌<◌, ◌≢◌, ◌⊎◌, inl, inr, ⊎_elim, ℕ, zero, suc, ◌+◌, ◌-◌, ◌*◌, ◌%◌, ◌^◌, Bool, true, false, cond, List, length, Option, Some, None}
-use Rattle.std.proofs.Common.{refl, sym, ap, ◌∙◌, subst, arith}
+use Rattle.std.proofs.Common.{◌≡◌, ◌≤◌, ◌<◌, ◌≢◌, ◌⊎◌, inl, inr, ⊎_elim, ℕ, ◌+◌, ◌%◌, ◌^◌, Bool, true, false, cond, List, length, Option, Some, None}
+use Rattle.std.proofs.Common.{refl, sym, subst, arith}
 use Rattle.std.specs.Prelude.{nat_le}
 use Rattle.std.proofs.Math.Pow.{pow_mono}
 use Rattle.std.proofs.lemmas.Nat.{pow_pos}
 use Rattle.std.proofs.lemmas.Bool.{cases_lt, leb-true}
 use Rattle.space_model.specs.Runs.{Run, run, end_of}
-use Rattle.space_model.specs.Apart.{Apart, Precedes}
 use Rattle.space_model.proofs.Minima.{next_power}
 use Rattle.buddy_space.specs.declared.marks.Mark.{Mark}
 use Rattle.buddy_space.specs.declared.marks.Mark.TheVariants.{Free}
 use Rattle.buddy_space.specs.declared.marks.Run.{Run as UnitRun}
 use Rattle.buddy_space.specs.Marks.{mark_at, AreFree, run_of}
 use Rattle.buddy_space.specs.Pieces.{IsPiece, IsFirst, IsBest, better, with_piece, IsCut, IsFreeUntil, IsStretch}
-use Rattle.buddy_space.proofs.Freed.{free_within, ends_within}
+use Rattle.buddy_space.proofs.Freed.{ends_within}
 use Rattle.buddy_space.proofs.Nests.{nests, begins_aligned}
 use Rattle.buddy_space.proofs.Ranges.{Splits, best_of_both}
 
@@ -147,8 +146,8 @@ piece_searched marks wanted first end unit exp best is low fits aligned ends lar
       none_larger = λ more a all. ⊎_elim
           (λ (x : exp ≡ 12). omega (arith, x, more))
           (λ o. ⊎_elim
-              (λ other. other a)
-              (λ (x : end < unit + 2 ^ (exp + 1)). is.until.ends (all end (let some = pow_pos exp in omega (arith, ends, some)) x)) o)
+          (λ other. other a)
+          (λ (x : end < unit + 2 ^ (exp + 1)). is.until.ends (all end (let some = pow_pos exp in omega (arith, ends, some)) x)) o)
           largest;
     }
 

@@ -1,24 +1,24 @@
 -- What a call that writes the marks leaves, for the marks as a vector keeps them.
-use Rattle.std.proofs.Common.{◌≡◌, ◌≤◌, ◌<◌, ◌⊎◌, inl, inr, ⊎_elim, ℕ, suc, ◌+◌, ◌-◌, ◌*◌, ◌%◌, ◌^◌, Bool, true, false, cond, List, [], ◌∷◌, ◌++◌, map, length, get_or, take, replicate}
-use Rattle.std.proofs.Common.{Option, Some, None, zero, refl, sym, ap, ◌∙◌, subst, arith}
-use Rattle.std.specs.Prelude.{◌==◌, ◌&&◌, option_map, Result, Ok, Err, is_ok, IsOk}
+use Rattle.std.proofs.Common.{◌≡◌, ◌≤◌, ◌<◌, inl, inr, ℕ, suc, ◌+◌, ◌-◌, ◌*◌, ◌%◌, ◌^◌, true, false, cond, List, [], ◌∷◌, ◌++◌, map, length, get_or, take, replicate}
+use Rattle.std.proofs.Common.{Option, Some, zero, refl, sym, ap, ◌∙◌, subst, arith}
+use Rattle.std.specs.Prelude.{◌==◌, option_map, Result, is_ok, IsOk}
 use Rattle.std.specs.Vec.{with_items}
 use Rattle.std.specs.Global.{Vec}
 use Rattle.std.proofs.lemmas.List.{with_items_is, take_all, take_more, map-append}
 use Rattle.std.proofs.lemmas.Bool.{and_from, and_parts, false_from_ne_true}
 use Rattle.space_model.specs.Sizes.{segment_units}
-use Rattle.space_model.specs.Runs.{Run, run, end_of, is_free, place}
+use Rattle.space_model.specs.Runs.{Run, run, is_free, place}
 use Rattle.space_model.specs.Apart.{In, IsRun}
 use Rattle.space_model.proofs.Members.{in_front, in_behind}
 use Rattle.space_model.proofs.FreeRuns.{free_run}
 use Rattle.space_model.proofs.Places.{place_is_run, place_is_free}
 use Rattle.buddy_space.specs.declared.marks.Mark.{Mark}
-use Rattle.buddy_space.specs.declared.marks.Mark.TheVariants.{Free, Taken, Held}
+use Rattle.buddy_space.specs.declared.marks.Mark.TheVariants.{Free, Held}
 use Rattle.buddy_space.specs.declared.marks.Run.{Run as UnitRun}
 use Rattle.buddy_space.specs.SpaceState.{SpaceState, most_segments, largest_exp, units, held, is_free_run, with_segment, taking, giving, deferring, settling}
 use Rattle.buddy_space.specs.Marks.{run_of, AreFree, IsUnused, IsFilled, IsTaken, AreWithin, IsReleased, seen, IsMarked}
 use Rattle.buddy_space.specs.Pieces.{IsBest}
-use Rattle.buddy_space.proofs.Freed.{free_by_marks, marks_by_free, ends_within}
+use Rattle.buddy_space.proofs.Freed.{free_by_marks, marks_by_free}
 use Rattle.buddy_space.proofs.Placing.{best_is_place}
 use Rattle.buddy_space.proofs.Changes.{IsSeen, seen_taking, seen_giving}
 use Rattle.buddy_space.proofs.Deferring.{seen_deferring, seen_settling, seen_segment}
@@ -162,7 +162,7 @@ pub found_run : (segments : ℕ) (marks : List Mark) (deferred : List UnitRun) (
     → IsMarked marks (seen segments marks deferred spare) → IsBest 12 marks wanted 0 (length marks) (Some best)
     → IsRun largest_exp (4096 * segments) (run best.unit wanted) × AreFree marks (run best.unit wanted)
 found_run segments marks deferred spare wanted best is f =
-    placed_run marks (seen segments marks deferred spare) wanted best.unit is 
+    placed_run marks (seen segments marks deferred spare) wanted best.unit is
     (best_is_place marks (seen segments marks deferred spare) wanted (Some best) is (subst (λ end. IsBest 12 marks wanted 0 end (Some best)) is.whole f))
 
 -- ---- a push that has room

@@ -1,5 +1,5 @@
 -- One mark for each unit, and what the marks say of runs.
-use Rattle.std.specs.Prelude.{◌≡◌, ◌≤◌, ◌<◌, ◌⊎◌, ℕ, zero, suc, ◌+◌, ◌%◌, ◌^◌, List, [], ◌∷◌, map, length, get_or, Option, Some, None}
+use Rattle.std.specs.Prelude.{◌≡◌, ◌≤◌, ◌<◌, ◌⊎◌, ℕ, suc, ◌+◌, ◌%◌, ◌^◌, List, [], ◌∷◌, map, length, get_or, Option, Some, None}
 use Rattle.space_model.specs.Runs.{Run, run, end_of}
 use Rattle.space_model.specs.Apart.{In, IsRun}
 use Rattle.buddy_space.specs.SpaceState.{SpaceState, largest_exp, units, held, IsParted}

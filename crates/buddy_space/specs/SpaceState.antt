@@ -1,5 +1,5 @@
 -- What is known of a space, and what each call makes of it. This project's own.
-use Rattle.std.specs.Prelude.{◌≡◌, ◌≤◌, ◌<◌, ℕ, ◌+◌, ◌-◌, ◌*◌, ◌%◌, ◌^◌, Bool, cond, not, ◌&&◌, ◌==◌, nat_lt, List, [], ◌∷◌, ◌++◌, filter}
+use Rattle.std.specs.Prelude.{◌≤◌, ◌<◌, ℕ, ◌+◌, ◌-◌, ◌*◌, ◌%◌, ◌^◌, Bool, cond, not, ◌&&◌, ◌==◌, nat_lt, List, [], ◌∷◌, ◌++◌, filter}
 use Rattle.space_model.specs.Sizes.{segment_units}
 use Rattle.space_model.specs.Runs.{Run, is_free}
 use Rattle.space_model.specs.Apart.{In, Pairs, Apart, IsRun}

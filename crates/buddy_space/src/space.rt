@@ -62,7 +62,8 @@ impl Space {
         ensures err { OnErr result (self.new ≡ self.old) }
         ensures parted { IsParted self.new }
     {
-        self.marks.resize(self.marks.len() + SEGMENT_UNITS, Mark::Free)?;
+        self.marks
+            .resize(self.marks.len() + SEGMENT_UNITS, Mark::Free)?;
         self.segments += 1;
         Ok(())
     }

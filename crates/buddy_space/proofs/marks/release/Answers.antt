@@ -1,4 +1,4 @@
-use Rattle.std.proofs.Common.{◌≡◌, ◌≤◌, ◌<◌, length, get_or, map, take, arith}
+use Rattle.std.proofs.Common.{◌<◌, length, map, take, arith}
 use Rattle.buddy_space.proofs.Deferring.{released_more}
 use Rattle.buddy_space.proofs.Written.{within_at, mapped_more}
 use Rattle.buddy_space.specs.Marks.{run_of}

@@ -1,4 +1,4 @@
-use Rattle.std.proofs.Common.{◌≡◌, ◌≤◌, subst, arith}
+use Rattle.std.proofs.Common.{◌≡◌, subst, arith}
 use Rattle.buddy_space.specs.Pieces.{IsBest}
 use Rattle.buddy_space.proofs.Stretches.{none_searched, piece_searched}
 use Rattle.buddy_space.proofs.search.best_of_stretch.Goals as goal

@@ -1,4 +1,4 @@
-use Rattle.std.proofs.Common.{◌≡◌, ◌≤◌, ◌+◌, ◌-◌, length, arith}
+use Rattle.std.proofs.Common.{◌+◌, ◌-◌, arith}
 use Rattle.std.specs.Prelude.{vec_len}
 use Rattle.buddy_space.proofs.Written.{written_segment}
 use Rattle.buddy_space.proofs.space.Space.add_segment.Goals as goal
@@ -10,12 +10,9 @@ invariant_of-self-2 c =
     (omega arith) (omega arith) c.in_ok-resize.ensures.items in
     record { marked = new.0; room = c.self.invariant.room }
 
-pub returns-clause-ok : goal.returns-clause-ok
-returns-clause-ok c = (written_segment c.self.inside.segments c.self.inside.marks.items c.resize.new.self.items c.self.inside.deferred.items
+pub returns : goal.returns
+returns c =
+    let new = written_segment c.self.inside.segments c.self.inside.marks.items c.resize.new.self.items c.self.inside.deferred.items
     c.self.inside.spare (c.len.result + 4096) (c.len.result + 4096 - vec_len c.self.inside.marks) c.args.self.now c.self.invariant.marked c.self.view_is c.requires
-    (omega arith) (omega arith) c.in_ok-resize.ensures.items).1
-
-pub returns-clause-parted : goal.returns-clause-parted
-returns-clause-parted c = (written_segment c.self.inside.segments c.self.inside.marks.items c.resize.new.self.items c.self.inside.deferred.items
-    c.self.inside.spare (c.len.result + 4096) (c.len.result + 4096 - vec_len c.self.inside.marks) c.args.self.now c.self.invariant.marked c.self.view_is c.requires
-    (omega arith) (omega arith) c.in_ok-resize.ensures.items).0.parted
+    (omega arith) (omega arith) c.in_ok-resize.ensures.items in
+    record { ok = new.1; err = tt; parted = new.0.parted }

@@ -1,4 +1,4 @@
-use Rattle.std.proofs.Common.{◌≡◌, ◌≤◌, true, false, length, refl, ap, sym, subst, ◌∙◌, arith}
+use Rattle.std.proofs.Common.{◌≡◌, true, false, refl, sym}
 use Rattle.space_model.specs.Runs.{run}
 use Rattle.buddy_space.proofs.Written.{unused_is_free, used_is_held, unused_run, written_taking}
 use Rattle.buddy_space.proofs.space.Space.claim.Goals as goal
@@ -12,12 +12,6 @@ returns-then-not-is_unused-clause-free c =
     wrong : false ≡ true → ⊥
     wrong e = cc
 
-pub returns-clause-free : goal.returns-clause-free
-returns-clause-free c =
-    rw (← c.self.view_is)
-    (sym (unused_is_free c.self.inside.marks.items _ (run c.args.unit c.args.exp) c.self.invariant.marked
-    (rw c.deref.ensures.value at (c.if-not-is_unused.ensures.0 refl))))
-
 pub invariant_of-self : goal.invariant_of-self
 invariant_of-self c =
     let unused = rw c.deref.ensures.value at (c.if-not-is_unused.ensures.0 refl) in
@@ -28,20 +22,16 @@ invariant_of-self c =
     (record { same = c.deref_mut.ensures.value; long = c.deref_mut.ensures.len; kept = c.mark_taken.auto.marks }) c.mark_taken.ensures in
     record { marked = new.0; room = c.self.invariant.room }
 
-pub returns-clause-claimed : goal.returns-clause-claimed
-returns-clause-claimed c =
+pub returns : goal.returns
+returns c =
     let unused = rw c.deref.ensures.value at (c.if-not-is_unused.ensures.0 refl) in
-    (written_taking c.self.inside.marks c.self.inside.segments c.deref_mut.result.now c.mark_taken.new.marks c.self.inside.deferred.items
+    let new = written_taking c.self.inside.marks c.self.inside.segments c.deref_mut.result.now c.mark_taken.new.marks c.self.inside.deferred.items
     c.self.inside.spare c.args.self.now (run c.args.unit c.args.exp) c.self.invariant.marked c.self.view_is
     (unused_run c.self.inside.segments c.self.inside.marks.items c.self.inside.deferred.items c.self.inside.spare (run c.args.unit c.args.exp)
     c.self.invariant.marked c.requires unused) unused.free
-    (record { same = c.deref_mut.ensures.value; long = c.deref_mut.ensures.len; kept = c.mark_taken.auto.marks }) c.mark_taken.ensures).1
-
-pub returns-clause-parted : goal.returns-clause-parted
-returns-clause-parted c =
-    let unused = rw c.deref.ensures.value at (c.if-not-is_unused.ensures.0 refl) in
-    (written_taking c.self.inside.marks c.self.inside.segments c.deref_mut.result.now c.mark_taken.new.marks c.self.inside.deferred.items
-    c.self.inside.spare c.args.self.now (run c.args.unit c.args.exp) c.self.invariant.marked c.self.view_is
-    (unused_run c.self.inside.segments c.self.inside.marks.items c.self.inside.deferred.items c.self.inside.spare (run c.args.unit c.args.exp)
-    c.self.invariant.marked c.requires unused) unused.free
-    (record { same = c.deref_mut.ensures.value; long = c.deref_mut.ensures.len; kept = c.mark_taken.auto.marks }) c.mark_taken.ensures).0.parted
+    (record { same = c.deref_mut.ensures.value; long = c.deref_mut.ensures.len; kept = c.mark_taken.auto.marks }) c.mark_taken.ensures in
+    record {
+      free = rw (← c.self.view_is) (sym (unused_is_free c.self.inside.marks.items _ (run c.args.unit c.args.exp) c.self.invariant.marked unused));
+      claimed = new.1;
+      parted = new.0.parted;
+    }

@@ -1,4 +1,3 @@
-use Rattle.std.proofs.Common.{◌≡◌, ◌≤◌, arith}
 use Rattle.buddy_space.proofs.Deferring.{spared}
 use Rattle.buddy_space.proofs.space.Space.reserve_deferred.Goals as goal
 

@@ -1,4 +1,4 @@
-use Rattle.std.proofs.Common.{◌≡◌, ◌≤◌, length, ap, sym, subst, arith}
+use Rattle.std.proofs.Common.{arith}
 use Rattle.buddy_space.proofs.Written.{deferred_within, written_settling}
 use Rattle.buddy_space.proofs.space.Space.settle.Goals as goal
 
@@ -15,12 +15,9 @@ invariant_of-self c =
     let room = c.self.invariant.room in
     rw c.clear.ensures.items (record { marked = new.0; room = omega (arith, room) })
 
-pub returns-clause-settled : goal.returns-clause-settled
-returns-clause-settled c = rw c.clear.ensures.items (written_settling c.self.inside.marks c.self.inside.segments c.deref_mut.result.now c.release.new.marks
+pub returns : goal.returns
+returns c =
+    let new = written_settling c.self.inside.marks c.self.inside.segments c.deref_mut.result.now c.release.new.marks
     c.self.inside.deferred.items c.self.inside.spare c.args.self.now c.self.invariant.marked c.self.view_is
-    (record { same = c.deref_mut.ensures.value; long = c.deref_mut.ensures.len; kept = c.release.auto.marks }) (rw c.deref.ensures.value at c.release.ensures)).1
-
-pub returns-clause-parted : goal.returns-clause-parted
-returns-clause-parted c = rw c.clear.ensures.items (written_settling c.self.inside.marks c.self.inside.segments c.deref_mut.result.now c.release.new.marks
-    c.self.inside.deferred.items c.self.inside.spare c.args.self.now c.self.invariant.marked c.self.view_is
-    (record { same = c.deref_mut.ensures.value; long = c.deref_mut.ensures.len; kept = c.release.auto.marks }) (rw c.deref.ensures.value at c.release.ensures)).0.parted
+    (record { same = c.deref_mut.ensures.value; long = c.deref_mut.ensures.len; kept = c.release.auto.marks }) (rw c.deref.ensures.value at c.release.ensures) in
+    rw c.clear.ensures.items (record { settled = new.1; parted = new.0.parted })

@@ -1,4 +1,4 @@
-use Rattle.std.proofs.Common.{◌≡◌, ◌*◌, ◌≤◌, Option, Some, None, length, ap, sym, subst, ◌∙◌, arith}
+use Rattle.std.proofs.Common.{Some, None, length, ap, ◌∙◌, arith}
 use Rattle.space_model.specs.Runs.{run}
 use Rattle.buddy_space.proofs.Written.{found_place, found_run, written_taking}
 use Rattle.buddy_space.proofs.space.Space.take.Goals as goal
@@ -17,10 +17,6 @@ mark_taken-requires-clause-ends c =
     let whole = c.self.invariant.marked.whole in
     omega (arith, ends, same, whole)
 
-pub returns-clause-place : goal.returns-clause-place
-returns-clause-place c = found_place c.self.inside.segments c.self.inside.marks.items c.self.inside.deferred.items c.self.inside.spare c.args.self.now
-    c.args.exp (Some c.in_ok-best.best) c.self.invariant.marked c.self.view_is (rw c.deref.ensures.value at c.in_ok-best.ensures)
-
 pub invariant_of-self : goal.invariant_of-self
 invariant_of-self c =
     let found = found_run c.self.inside.segments c.self.inside.marks.items c.self.inside.deferred.items c.self.inside.spare
@@ -30,18 +26,17 @@ invariant_of-self c =
     (record { same = c.deref_mut.ensures.value; long = c.deref_mut.ensures.len; kept = c.mark_taken.auto.marks }) c.mark_taken.ensures in
     record { marked = new.0; room = c.self.invariant.room }
 
-pub returns-clause-taken : goal.returns-clause-taken
-returns-clause-taken c =
+pub returns : goal.returns
+returns c =
+    let best = rw c.deref.ensures.value at c.in_ok-best.ensures in
     let found = found_run c.self.inside.segments c.self.inside.marks.items c.self.inside.deferred.items c.self.inside.spare
-    c.args.exp c.in_ok-best.best c.self.invariant.marked (rw c.deref.ensures.value at c.in_ok-best.ensures) in
-    (written_taking c.self.inside.marks c.self.inside.segments c.deref_mut.result.now c.mark_taken.new.marks c.self.inside.deferred.items
+    c.args.exp c.in_ok-best.best c.self.invariant.marked best in
+    let new = written_taking c.self.inside.marks c.self.inside.segments c.deref_mut.result.now c.mark_taken.new.marks c.self.inside.deferred.items
     c.self.inside.spare c.args.self.now (run c.in_ok-best.best.unit c.args.exp) c.self.invariant.marked c.self.view_is found.0 found.1
-    (record { same = c.deref_mut.ensures.value; long = c.deref_mut.ensures.len; kept = c.mark_taken.auto.marks }) c.mark_taken.ensures).1
-
-pub returns-clause-parted : goal.returns-clause-parted
-returns-clause-parted c =
-    let found = found_run c.self.inside.segments c.self.inside.marks.items c.self.inside.deferred.items c.self.inside.spare
-    c.args.exp c.in_ok-best.best c.self.invariant.marked (rw c.deref.ensures.value at c.in_ok-best.ensures) in
-    (written_taking c.self.inside.marks c.self.inside.segments c.deref_mut.result.now c.mark_taken.new.marks c.self.inside.deferred.items
-    c.self.inside.spare c.args.self.now (run c.in_ok-best.best.unit c.args.exp) c.self.invariant.marked c.self.view_is found.0 found.1
-    (record { same = c.deref_mut.ensures.value; long = c.deref_mut.ensures.len; kept = c.mark_taken.auto.marks }) c.mark_taken.ensures).0.parted
+    (record { same = c.deref_mut.ensures.value; long = c.deref_mut.ensures.len; kept = c.mark_taken.auto.marks }) c.mark_taken.ensures in
+    record {
+      place = found_place c.self.inside.segments c.self.inside.marks.items c.self.inside.deferred.items c.self.inside.spare c.args.self.now
+          c.args.exp (Some c.in_ok-best.best) c.self.invariant.marked c.self.view_is best;
+      taken = new.1;
+      parted = new.0.parted;
+    }
