@@ -35,7 +35,7 @@ later : (n : ℕ) (o : Option ℕ) (rs : List Run) (q : Run) → In q (with_begu
 later n None rs q a rest = let l = rest a in omega (arith, l)
 later n (Some e) rs q a rest = ⊎_elim (λ here. let u = ap (λ (r : Run). r.unit) here in omega (arith, u)) (λ b. let l = rest b in omega (arith, l)) a
 
-pub not_before : (n : ℕ) (xs : List Mark) (q : Run) → In q (taken_from n xs) → n ≤ q.unit
+not_before : (n : ℕ) (xs : List Mark) (q : Run) → In q (taken_from n xs) → n ≤ q.unit
 not_before n [] q a = absurd a
 not_before n (x ∷ xs) q a = later n (begun x) (taken_from (suc n) xs) q a (not_before (suc n) xs q)
 

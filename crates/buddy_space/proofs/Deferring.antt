@@ -90,9 +90,6 @@ spared marks s n m = record {
 
 -- ---- all deferred runs are settled
 
-pub released_none : (marks : List Mark) → IsReleased marks marks []
-released_none marks = record { each = λ u. inr (refl, λ r a has. absurd a) }
-
 pub released_more : (old mid new : List Mark) (runs : List Run) (r : Run) → IsReleased old mid runs → IsFilled mid new r Free → IsReleased old new (runs ++ r ∷ [])
 released_more old mid new runs r is filled = record {
   each = λ u. ⊎_elim

@@ -13,7 +13,7 @@ use Rattle.buddy_space.specs.declared.marks.Mark.TheVariants.{Free, Held}
 use Rattle.buddy_space.specs.SpaceState.{SpaceState, units, held}
 use Rattle.buddy_space.specs.Marks.{mark_at, Has, AreFree, IsMarked}
 
-pub meets-apart : (r q : Run) → Apart r q → meets r q ≡ false
+meets-apart : (r q : Run) → Apart r q → meets r q ≡ false
 meets-apart r q apart = ⊎_elim
     (λ (l : end_of r ≤ q.unit). and_right (nat_lt r.unit (end_of q)) (nat_lt q.unit (end_of r)) (le-ltb q.unit (end_of r) l))
     (λ (l : end_of q ≤ r.unit). and_left (nat_lt r.unit (end_of q)) (nat_lt q.unit (end_of r)) (le-ltb r.unit (end_of q) l)) apart
@@ -60,7 +60,7 @@ marks_by_free marks s r is free u low high =
 not_free : (m : Mark) → m ≡ Held → m ≡ Free → ⊥
 not_free m a b = cc
 
-pub free_within : (marks : List Mark) (u : ℕ) → mark_at marks u ≡ Free → u < length marks
+free_within : (marks : List Mark) (u : ℕ) → mark_at marks u ≡ Free → u < length marks
 free_within marks u free = ⊎_elim
     (λ (x : u < length marks). x) (λ (x : length marks ≤ u). absurd (not_free (mark_at marks u) (get_or_past marks u Held x) free)) (cases_lt u (length marks))
 

@@ -13,7 +13,7 @@ fewer a b n l = ⊎_elim
     (cases_lt a b)
 
 -- a multiple of a size is not inside a run of this size
-pub next_multiple : (u v e : ℕ) → u % 2 ^ e ≡ 0 → v % 2 ^ e ≡ 0 → u < v → u + 2 ^ e ≤ v
+next_multiple : (u v e : ℕ) → u % 2 ^ e ≡ 0 → v % 2 ^ e ≡ 0 → u < v → u + 2 ^ e ≤ v
 next_multiple u v e a b l =
     let x = multiple u e a in
     let y = multiple v e b in
@@ -24,7 +24,7 @@ next_multiple u v e a b l =
 pub begins_aligned : (q : Run) (e : ℕ) → q.unit % 2 ^ q.exp ≡ 0 → e ≤ q.exp → q.unit % 2 ^ e ≡ 0
 begins_aligned q e a l = aligned_times q.unit (q.unit / 2 ^ q.exp) e q.exp l (multiple q.unit q.exp a)
 
-pub ends_aligned : (q : Run) (e : ℕ) → q.unit % 2 ^ q.exp ≡ 0 → e ≤ q.exp → end_of q % 2 ^ e ≡ 0
+ends_aligned : (q : Run) (e : ℕ) → q.unit % 2 ^ q.exp ≡ 0 → e ≤ q.exp → end_of q % 2 ^ e ≡ 0
 ends_aligned q e a l =
     let x = multiple q.unit q.exp a in
     aligned_times (end_of q) (suc (q.unit / 2 ^ q.exp)) e q.exp l (omega (arith, x))

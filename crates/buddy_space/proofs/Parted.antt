@@ -49,7 +49,7 @@ apart_first false r q qs rest apart p go parts = (
   go,
 )
 
-pub apart_with_run : (r : Run) (rs : List Run) → ((x : Run) → In x rs → Apart r x) → Pairs Apart rs → Pairs Apart (with_run r rs)
+apart_with_run : (r : Run) (rs : List Run) → ((x : Run) → In x rs → Apart r x) → Pairs Apart rs → Pairs Apart (with_run r rs)
 apart_with_run r [] apart p = (λ x a. absurd a, tt)
 apart_with_run r (q ∷ qs) apart p =
     apart_first (nat_lt r.unit q.unit) r q qs (with_run r qs) apart p (apart_with_run r qs (λ x a. apart x (inr a)) p.1) (in_with_run r qs)
@@ -67,7 +67,7 @@ ascends_first false r q qs rest is ne p go parts =
     let less : q.unit < r.unit = omega (arith, low, ne) in
     (λ x a. ⊎_elim (λ new. subst (λ (y : Run). q.unit < y.unit) new less) (λ old. p.0 x old) (parts x a), go)
 
-pub ascends_with_run : (r : Run) (rs : List Run) → ((x : Run) → In x rs → r.unit ≢ x.unit) → Pairs Before rs → Pairs Before (with_run r rs)
+ascends_with_run : (r : Run) (rs : List Run) → ((x : Run) → In x rs → r.unit ≢ x.unit) → Pairs Before rs → Pairs Before (with_run r rs)
 ascends_with_run r [] others p = (λ x a. absurd a, tt)
 ascends_with_run r (q ∷ qs) others p =
     ascends_first (nat_lt r.unit q.unit) r q qs (with_run r qs) refl (others q (inl refl)) p

@@ -44,7 +44,7 @@ all_true f from (suc n) each =
 
 -- ---- pieces and rooms
 
-pub room_of_piece : (marks : List Mark) (s : SpaceState) (wanted : ℕ) (r : Run) → IsMarked marks s → IsPiece largest_exp marks r → wanted ≤ r.exp
+room_of_piece : (marks : List Mark) (s : SpaceState) (wanted : ℕ) (r : Run) → IsMarked marks s → IsPiece largest_exp marks r → wanted ≤ r.exp
     → HasRoom largest_exp (units s) (held s) wanted r
 room_of_piece marks s wanted r is piece enough =
     let long = is.whole in
@@ -66,7 +66,7 @@ room_of_piece marks s wanted r is piece enough =
         piece.maximal (run_around r.unit e) (omega (arith, high, fits)) (around_aligned r.unit e) (omega (arith, low)) has.0 has.1
         (marks_by_free marks s (run_around r.unit e) is free)
 
-pub piece_of_room : (marks : List Mark) (s : SpaceState) (wanted : ℕ) (r : Run) → IsMarked marks s → HasRoom largest_exp (units s) (held s) wanted r
+piece_of_room : (marks : List Mark) (s : SpaceState) (wanted : ℕ) (r : Run) → IsMarked marks s → HasRoom largest_exp (units s) (held s) wanted r
     → IsPiece largest_exp marks r
 piece_of_room marks s wanted r is room = record {
   exp = room.is_run.exp;

@@ -70,7 +70,7 @@ begins_with marks q p cut fits aligned free low high =
     let some = pow_pos p.exp in ⊎_elim
     (λ (x : end_of q ≤ p.unit). absurd (omega (arith, x, high, some))) (λ (x : p.unit ≤ q.unit). omega (arith, x, low)) (cut q fits aligned free)
 
-pub is_piece : (marks : List Mark) (p : Run) → p.exp ≤ 12 → p.unit % 2 ^ p.exp ≡ 0 → AreFree marks p → IsCut marks p.unit → IsLargest marks p.unit p.exp
+is_piece : (marks : List Mark) (p : Run) → p.exp ≤ 12 → p.unit % 2 ^ p.exp ≡ 0 → AreFree marks p → IsCut marks p.unit → IsLargest marks p.unit p.exp
     → IsPiece 12 marks p
 is_piece marks p fits aligned free cut largest = record {
   exp = fits;

@@ -97,7 +97,7 @@ unused_is_free marks s r is unused =
     and_from (r.unit % 2 ^ r.exp == 0) (is_free (units s) (held s) r) (ap (λ n. n == 0) unused.aligned)
     (free_by_marks marks s r is (omega (arith, long, ends)) unused.free)
 
-pub free_is_unused : (marks : List Mark) (s : SpaceState) (r : Run) → IsMarked marks s → is_free_run s r ≡ true → IsUnused marks r
+free_is_unused : (marks : List Mark) (s : SpaceState) (r : Run) → IsMarked marks s → is_free_run s r ≡ true → IsUnused marks r
 free_is_unused marks s r is free =
     let parts = and_parts (r.unit % 2 ^ r.exp == 0) (is_free (units s) (held s) r) free in
     let long = is.whole in
@@ -112,7 +112,7 @@ used_is_held marks s r is used = false_from_ne_true _ (λ free. used (free_is_un
 
 -- ---- the place that was found
 
-pub placed_run : (marks : List Mark) (s : SpaceState) (wanted unit : ℕ) → IsMarked marks s → Some unit ≡ place segment_units s.segments (held s) wanted
+placed_run : (marks : List Mark) (s : SpaceState) (wanted unit : ℕ) → IsMarked marks s → Some unit ≡ place segment_units s.segments (held s) wanted
     → IsRun largest_exp (units s) (run unit wanted) × AreFree marks (run unit wanted)
 placed_run marks s wanted unit is found = (
   place_is_run largest_exp (units s) (held s) wanted unit (sym found),

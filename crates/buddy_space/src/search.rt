@@ -1,4 +1,4 @@
-//! The search for the place of a run.
+//! The search for the place of a run. A piece is an aligned run of free units that lies in no larger one.
 ghost use Rattle.std.specs.Prelude.{◌≡◌, ◌≢◌, ◌≤◌, ◌<◌, ◌⊎◌, ℕ, ◌+◌, ◌%◌, ◌^◌, List, length};
 ghost use Rattle.buddy_space.specs.Marks.{mark_at};
 ghost use Rattle.buddy_space.specs.Pieces.{IsFreeUntil, IsStretch, IsBest, better, with_piece};
@@ -8,7 +8,7 @@ use crate::marks::{Mark, Run, size_of};
 /// The exponent of the largest run.
 const LARGEST_EXP: u8 = 12;
 
-/// The first of the smallest pieces of at least the wanted exponent. Each unit is looked at once.
+/// The lowest of the smallest pieces of at least the wanted exponent. Each unit is looked at once.
 pub(crate) fn best_of_all(marks: &[Mark], wanted: u8) -> Option<Run>
     requires { length marks.now < 2 ^ 32 }
     ensures { IsBest 12 marks.now wanted 0 (length marks.now) result }
@@ -38,7 +38,7 @@ fn free_until(marks: &[Mark], first: usize) -> usize
     marks.len()
 }
 
-/// The same of free units between two that are not free.
+/// The same of one stretch of free units.
 fn best_of_stretch(first: usize, end: usize, wanted: u8) -> Option<Run>
     requires first { first ≤ end }
     requires end { end < 2 ^ 32 }

@@ -1,8 +1,8 @@
 //! Which units of the segments are free, taken or deferred.
 //!
 //! The plain body: one mark for each unit, and a list of the deferred runs. `take` looks at each unit once, and no other
-//! call looks at more units than those of the runs that it changes. A body that keeps the free runs of each size by
-//! themselves will replace it, under the same contracts.
+//! call looks at units beside those of its runs. A buddy system, which keeps the free runs of each size by themselves, will
+//! replace it under the same contracts.
 ghost use Rattle.std.specs.Prelude.{◌≡◌, ◌≤◌, ◌<◌, ◌^◌, max, OnOk, OnErr, MatchOption, if◌then◌else◌};
 ghost use Rattle.space_model.specs.Sizes.{segment_units};
 ghost use Rattle.space_model.specs.Runs.{run, place};
@@ -18,9 +18,9 @@ use std::marker::Model;
 /// How many units a segment has.
 const SEGMENT_UNITS: usize = 4096;
 
-/// Segments of 4,096 units, of which runs are taken and deferred. Contracts see the number of segments, the taken runs in
-/// ascending order, the deferred ones in the order in which they were deferred, and how
-/// many more can be deferred: the spare.
+/// Segments of 4,096 units, of which runs are taken or deferred, and all others are free. Contracts see the number of
+/// segments, the taken runs in ascending order, the deferred ones in the order in which they were deferred, and the spare:
+/// for how many more deferred runs there is room.
 #[derive(Drop)]
 pub struct Space {
     segments: u32,
