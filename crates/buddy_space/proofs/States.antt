@@ -1,9 +1,9 @@
 -- What a change of a state makes of the runs that are free and of those that are held.
-use Rattle.std.proofs.Common.{◌≡◌, ◌≤◌, ◌<◌, ◌≢◌, ◌⊎◌, inl, inr, ⊎_elim, ℕ, ◌%◌, ◌^◌, Bool, true, false, cond, List, [], ◌∷◌, ◌++◌, Some, None}
+use Rattle.std.proofs.Common.{◌≡◌, ◌≤◌, ◌<◌, ◌≢◌, ◌⊎◌, inl, inr, ⊎_elim, ℕ, ◌+◌, ◌%◌, ◌^◌, Bool, true, false, cond, List, [], ◌∷◌, ◌++◌, Some, None}
 use Rattle.std.proofs.Common.{refl, sym, ap, ◌∙◌, subst, arith}
 use Rattle.std.specs.Prelude.{not, ◌&&◌, ◌||◌, ◌==◌, nat_le, nat_lt}
 use Rattle.std.specs.List.{list_any}
-use Rattle.std.proofs.lemmas.Bool.{both_ways, and_parts, and_from, false_from_ne_true}
+use Rattle.std.proofs.lemmas.Bool.{both_ways, and_parts, and_from, false_from_ne_true, or_cases, ltb-true, cases_Bool, le-leb}
 use Rattle.space_model.specs.Sizes.{segment_units}
 use Rattle.space_model.specs.Runs.{Run, run, end_of, meets, is_free, place}
 use Rattle.space_model.specs.Apart.{In, Pairs, SameMembers, Apart, IsRun}
@@ -15,8 +15,8 @@ use Rattle.space_model.proofs.Serving.{swapped}
 use Rattle.buddy_space.specs.SpaceState.{SpaceState, largest_exp, units, held, is_free_run, Before, IsParted, with_run, is_same, without, no_segments}
 use Rattle.buddy_space.specs.SpaceState.{with_segment, taking, giving, deferring, settling}
 use Rattle.buddy_space.proofs.Begun.{same_self, goes, stays, none_goes, first_place, other_unit}
-use Rattle.buddy_space.proofs.Parted.{in_with_run, with_run_in, with_run_new, not_at, in_without, not_in_without, others_apart}
-use Rattle.buddy_space.proofs.Freed.{is_free_from}
+use Rattle.buddy_space.proofs.Parted.{one_or_apart, in_with_run, with_run_in, with_run_new, not_at, in_without, not_in_without, others_apart}
+use Rattle.buddy_space.proofs.Freed.{is_free_from, outside}
 use Rattle.buddy_space.proofs.Changes.{same_or_in, same_run}
 
 -- ---- runs of the space
@@ -201,3 +201,33 @@ giving_in s r q other a = ⊎_elim (λ same. absurd (other same)) (λ old. old) 
 
 pub parted_without : IsParted no_segments
 parted_without = record { most = omega arith; runs = λ r a. absurd a; apart = tt; ascending = tt }
+
+-- ---- each unit
+
+meeting : (q : Run) (runs : List Run) → list_any (meets q) runs ≡ true → (r : Run) × In r runs × (meets q r ≡ true)
+meeting q [] is = absurd (cc is)
+meeting q (r ∷ rs) is = ⊎_elim
+    (λ here. (r, inl refl, here)) (λ later. let f = meeting q rs later in (f.0, inr f.1, f.2)) (or_cases (meets q r) (list_any (meets q) rs) is)
+
+pub unit_is_free_or_held : (s : SpaceState) (unit : ℕ) → unit < units s
+    → (is_free_run s (run unit 0) ≡ true) ⊎ ((r : Run) × In r (held s) × (r.unit ≤ unit) × (unit < end_of r))
+unit_is_free_or_held s unit low = ⊎_elim
+    (λ some. let f = meeting (run unit 0) (held s) some in
+    let parts = and_parts (nat_lt unit (end_of f.0)) (nat_lt f.0.unit (unit + 1)) f.2 in
+    let begins = ltb-true f.0.unit (unit + 1) parts.1 in
+    inr (f.0, f.1, omega (arith, begins), ltb-true unit (end_of f.0) parts.0))
+    (λ none. inl (and_from (unit % 1 == 0) (is_free (units s) (held s) (run unit 0)) (ap (λ n. n == 0) (whole unit))
+    (and_from (nat_le (unit + 1) (units s)) (not (list_any (meets (run unit 0)) (held s))) (le-leb (unit + 1) (units s) (omega (arith, low)))
+    (ap not none))))
+    (cases_Bool (list_any (meets (run unit 0)) (held s)))
+  where
+    whole : (n : ℕ) → n % 1 ≡ 0
+    whole n = omega arith
+
+pub free_is_not_held : (s : SpaceState) (unit : ℕ) (r : Run) → is_free_run s (run unit 0) ≡ true → In r (held s) → r.unit ≤ unit → unit < end_of r → ⊥
+free_is_not_held s unit r free a low high = outside (run unit 0) r unit (free_is_apart s (run unit 0) r free a) (omega arith, omega arith) (low, high)
+
+pub held_once : (s : SpaceState) (unit : ℕ) (r q : Run) → IsParted s → In r (held s) → In q (held s) → r.unit ≤ unit → unit < end_of r → q.unit ≤ unit
+    → unit < end_of q → r ≡ q
+held_once s unit r q parted a b low high begins ends = ⊎_elim
+    (λ same. same) (λ apart. absurd (outside r q unit apart (low, high) (begins, ends))) (one_or_apart (held s) r q parted.apart a b)

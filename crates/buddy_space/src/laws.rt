@@ -1,7 +1,7 @@
 //! Laws of the states of a space, as contracts of functions that do nothing.
 ghost use Rattle.std.specs.Prelude.{◌≡◌, ◌≤◌, ◌<◌, ◌≢◌, ◌⊎◌, ◌↔◌, ℕ, not, ◌&&◌, true, false, Some, None};
 ghost use Rattle.space_model.specs.Sizes.{segment_units};
-ghost use Rattle.space_model.specs.Runs.{Run, run, meets, place};
+ghost use Rattle.space_model.specs.Runs.{Run, run, end_of, meets, place};
 ghost use Rattle.space_model.specs.Apart.{In, SameMembers, Apart, IsRun};
 ghost use Rattle.buddy_space.specs.SpaceState.{SpaceState, most_segments, largest_exp, units, held, is_free_run, IsParted, no_segments};
 ghost use Rattle.buddy_space.specs.SpaceState.{with_segment, taking, giving, deferring, settling};
@@ -14,6 +14,15 @@ pub fn the_runs_part_the_units()
     ensures give { (s : SpaceState) (r : Run) → IsParted s → IsParted (giving s r) }
     ensures defer { (s : SpaceState) (r : Run) → IsParted s → In r s.taken → IsParted (deferring s r) }
     ensures settle { (s : SpaceState) → IsParted s → IsParted (settling s) }
+{}
+
+/// Each unit is free, or in just one of the taken and deferred runs.
+pub fn each_unit_is_free_or_in_one_held_run()
+    ensures covered { (s : SpaceState) (unit : ℕ) → unit < units s
+        → (is_free_run s (run unit 0) ≡ true) ⊎ ((r : Run) × In r (held s) × (r.unit ≤ unit) × (unit < end_of r)) }
+    ensures not_both { (s : SpaceState) (unit : ℕ) (r : Run) → is_free_run s (run unit 0) ≡ true → In r (held s) → r.unit ≤ unit → unit < end_of r → ⊥ }
+    ensures once { (s : SpaceState) (unit : ℕ) (r q : Run) → IsParted s → In r (held s) → In q (held s) → r.unit ≤ unit → unit < end_of r → q.unit ≤ unit
+        → unit < end_of q → r ≡ q }
 {}
 
 /// A run is free where it is aligned, lies in the segments and is apart from each held one.
