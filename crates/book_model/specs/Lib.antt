@@ -1,0 +1,11 @@
+-- The definitions of this crate.
+
+-- ---- cited by public contracts
+pub mod Book
+pub mod Planning
+pub mod LedgerOf
+pub mod OfFile
+pub mod Flushing
+pub mod Below
+-- ---- what worked rows look into
+pub mod Scripts

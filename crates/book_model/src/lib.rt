@@ -1,0 +1,10 @@
+//! Definitions of the book of a table's file in memory: when it is in order, what the touched keys of a command do to it,
+//! and when it is that of a file.
+#![tactic(auto)]
+
+pub use change::Change;
+
+mod below;
+mod change;
+pub mod ledger_laws;
+pub mod order_laws;
