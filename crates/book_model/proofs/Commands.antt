@@ -40,7 +40,7 @@ module _ (laws : PlaceLaws) (n : ℕ) (b : Book) (c : Change) (formed : IsWellFo
       ∙ laws.others b.cache c.key key t other)
       (serve_ways laws n b c formed can new is)
 
-  same_place : (new : Book) → serve n b c ≡ Ok new → new.place ≡ b.place
+  pub same_place : (new : Book) → serve n b c ≡ Ok new → new.place ≡ b.place
   same_place new is = ⊎_elim (λ e. ap (λ (x : Book). x.place) e.is) (λ m. ap (λ (x : Book). x.place) m.is) (serve_ways laws n b c formed can new is)
 
   released_standing : (e : Entry) → IsStanding b e → ((g : Entry) → c.old ≡ Some g → g ≡ e → ⊥) → IsStanding (released b c) e
@@ -131,3 +131,9 @@ planned_filed laws n cs b formed are = (planned_kept n
     (λ x new c d kept can change keys olds is. carries laws n x c kept.0 can new d change keys olds is)
     cs b (formed, record { there = λ e a. a; back = λ e a. a }) are.each are.keys are.entries
     (full_formed n b formed, record { there = λ e a. a; back = λ e a. a })).1
+
+pub planned_place : (laws : PlaceLaws) (n : ℕ) (cs : List Change) (b : Book) → IsWellFormed n b → AreChanges b cs → (planned n b cs).place ≡ b.place
+planned_place laws n cs b formed are = (planned_kept n (λ x. IsWellFormed n x × (x.place ≡ b.place)) IsChange
+    (λ x new c kept can is. (serve_formed laws n x c kept.0 can new is, same_place laws n x c kept.0 can new is ∙ kept.1))
+    (λ x new c d kept can change keys olds is. carries laws n x c kept.0 can new d change keys olds is)
+    cs b (formed, refl) are.each are.keys are.entries (full_formed n b formed, refl)).1

@@ -100,7 +100,7 @@ module _ (n : ℕ) (standing : List Standing) (b : Book) (own : Shared n standin
 
 -- ---- the place
 
-growing_same : (laws : LedgerLaws) (n : ℕ) (xs ys : List Run) → SameMembers xs ys → (exp s more : ℕ)
+pub growing_same : (laws : LedgerLaws) (n : ℕ) (xs ys : List Run) → SameMembers xs ys → (exp s more : ℕ)
     → place_growing n xs exp s more ≡ place_growing n ys exp s more
 growing_same laws n xs ys same exp s zero = ap (λ o. or_grown o s (λ grown. None)) (laws.same_place (log2 n) (n * s) xs ys exp same)
 growing_same laws n xs ys same exp s (suc more) =

@@ -10,3 +10,8 @@ pub mod Filed
 pub mod Commands
 pub mod Knowing
 pub mod LedgerMoves
+pub mod Alike
+pub mod Blocks
+pub mod OfFile
+pub mod Headers
+pub mod Opened

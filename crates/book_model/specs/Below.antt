@@ -1,9 +1,16 @@
 -- What the laws of the crates below say, as far as the laws of this crate rest on it.
-use Rattle.std.specs.Prelude.{◌≡◌, ℕ, ◌+◌, false, List, Some, None, bytes_eq, option_and_then}
+use Rattle.std.specs.Prelude.{◌≡◌, ℕ, ◌+◌, true, false, List, Some, None, Ok, bytes_eq, option_and_then}
 use Rattle.space_model.specs.Runs.{Run, run, front_of_smallest, place}
 use Rattle.space_model.specs.Apart.{In, SameMembers, Apart, IsRun}
 use Rattle.space_model.specs.Ledger.{Placed, place_growing, packed_of, with_pending}
 use Rattle.space_model.specs.LedgerOrder.{IsFirstPlace}
+use Rattle.file_model.specs.declared.head.Head.{Head}
+use Rattle.file_model.specs.declared.head.Located.{Located}
+use Rattle.file_model.specs.Layout.{page_of}
+use Rattle.file_model.specs.Header.{current_copy, head_of, located, segments_of}
+use Rattle.file_model.specs.View.{Units, units_in, view}
+use Rattle.file_model.specs.Fit.{has_no_rejects}
+use Rattle.file_model.specs.Gates.{AreRead, OpenAtTaken}
 use Rattle.write_cache.specs.declared.pending.Pending.{Pending}
 use Rattle.write_cache.specs.PendingState.{in_ledger}
 use Rattle.write_cache.specs.Waiting.{Waiting, state_of, with_state, HasDistinctKeys, ledger_of as pending_of}
@@ -28,3 +35,11 @@ pub record LedgerLaws : Type 0 where
       → front_of_smallest largest units xs exp ≡ front_of_smallest largest units ys exp
   pub put : (w : Waiting) (key : List ℕ) (s : Pending) → pending_of (with_state w key s) ≡ with_pending (pending_of w) (in_ledger key s)
   pub block : (w : Waiting) (key : List ℕ) → packed_of (pending_of w) key ≡ option_and_then (λ s. (in_ledger key s).packed) (state_of w key)
+
+-- what stands at a unit is a block of this unit
+pub record BlockLaws : Type 0 where
+  pub read : (per_segment : ℕ) (h : Head) (image : List ℕ) → AreRead h (units_in per_segment h image)
+  pub taken : (h : Head) (units : Units) → AreRead h units → has_no_rejects (view h units) ≡ true → OpenAtTaken units
+  pub only : (h : Head) (units : Units) → AreRead h units → OpenAtTaken units → has_no_rejects (view h units) ≡ true
+  pub located : (image : List ℕ) (l : Located) → located image ≡ Ok l
+      → (head_of image ≡ Ok l.head) × (current_copy (page_of image) ≡ Some l.second) × (l.whole ≡ segments_of l.head image)

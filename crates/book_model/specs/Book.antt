@@ -1,6 +1,6 @@
 -- What is known of a table's file in memory, which is called its book: the header, the space, the directory, and the keys
 -- that wait for the next flush. And when a book is in order. This project's own.
-use Rattle.std.specs.Prelude.{◌≡◌, ◌≤◌, ℕ, ◌*◌, true, List, ◌++◌, map, filter_map, Option, Some, None, option_map}
+use Rattle.std.specs.Prelude.{◌≡◌, ◌≤◌, ℕ, ◌*◌, true, List, ◌++◌, map, filter_map, Option, Some, None, option_map, Result, Ok, Err}
 use Rattle.term_model.specs.Hash.{hash_of}
 use Rattle.space_model.specs.Least.{log2}
 use Rattle.space_model.specs.Runs.{Run, run}
@@ -112,3 +112,10 @@ pub record IsAlike (a b : Book) : Type 0 where
   pub deferred : SameMembers a.space.deferred b.space.deferred
   pub directory : SameMembers a.directory b.directory
   pub cache : b.cache ≡ a.cache
+
+-- two results with books that are alike, or with the same exponent
+abbrev pub AreAlike : Result Book ℕ → Result Book ℕ → Type 0
+AreAlike (Ok a) (Ok b) = IsAlike a b
+AreAlike (Ok a) (Err y) = ⊥
+AreAlike (Err x) (Ok b) = ⊥
+AreAlike (Err x) (Err y) = y ≡ x

@@ -4,7 +4,9 @@
 
 pub use change::Change;
 
+pub mod alike_laws;
 mod below;
 mod change;
+pub mod file_laws;
 pub mod ledger_laws;
 pub mod order_laws;
