@@ -15,3 +15,6 @@ pub mod Blocks
 pub mod OfFile
 pub mod Headers
 pub mod Opened
+pub mod Flushable
+pub mod Written
+pub mod Settled

@@ -41,7 +41,7 @@ taken_apart laws h units read none =
     inl ((laws.taken h units read none).apart s.unit t.unit s t (taken_stands h units read s a) (taken_stands h units read t b) lower))
     (taken_lower h units read))
 
-no_keys : HasDistinctKeys []
+pub no_keys : HasDistinctKeys []
 unfolding IsDistinct
 no_keys = tt
 

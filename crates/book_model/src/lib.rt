@@ -8,5 +8,6 @@ pub mod alike_laws;
 mod below;
 mod change;
 pub mod file_laws;
+pub mod flush_laws;
 pub mod ledger_laws;
 pub mod order_laws;
