@@ -126,7 +126,7 @@ module _ (blocks : BlockLaws) (known : FlushLaws) (file : List ℕ) (b : Book) (
     entry_waits = filter_map_in (λ (x : Touched). pending_entry x.1) b.cache e (new_entry e.1.hash e.1.unit p) there
         (ap (λ o. option_map (new_entry e.1.hash e.1.unit) o) has)
 
-    its_run : IsRun (log2 n) (n * b.space.segments) (entry_run (new_entry e.1.hash e.1.unit p))
+    pub its_run : IsRun (log2 n) (n * b.space.segments) (entry_run (new_entry e.1.hash e.1.unit p))
     its_run = of.order.parted.taken_runs (entry_run (new_entry e.1.hash e.1.unit p)) (entry_taken b of.order.order (new_entry e.1.hash e.1.unit p)
         (of.order.order.listed (new_entry e.1.hash e.1.unit p) entry_waits))
 
@@ -197,7 +197,7 @@ module _ (blocks : BlockLaws) (known : FlushLaws) (file : List ℕ) (b : Book) (
       (filter_map_pairs (λ (e : Touched). pending_entry e.1) MeetsNot b.cache (follows blocks file b of).apart))
 
   -- bytes that are those of a block are those of no other one
-  one_block : (x : Body) (s t : Block) → IsPacked n h x s → IsPacked n h x t → s ≡ t
+  pub one_block : (x : Body) (s t : Block) → IsPacked n h x s → IsPacked n h x t → s ≡ t
   one_block x s t p q = let a = p.stands [] in let c = q.stands [] in cc (a, c)
 
   key_by : (e : Touched) (x : Body) (s : Block) (o : Option Packed) → In e b.cache → e.1.block ≡ o

@@ -18,3 +18,6 @@ pub mod Opened
 pub mod Flushable
 pub mod Written
 pub mod Settled
+pub mod Closed
+pub mod NewObjects
+pub mod FlushedLedger

@@ -82,7 +82,7 @@ module _ (blocks : BlockLaws) (known : FlushLaws) (laws : WriteLaws) (file : Lis
   can : IsFlushable n h bodies olds file
   can = flushable blocks known file b of grown
 
-  read_now : AreRead h now
+  pub read_now : AreRead h now
   read_now = blocks.read n h done
 
   order : IsInOrder b
@@ -91,7 +91,7 @@ module _ (blocks : BlockLaws) (known : FlushLaws) (laws : WriteLaws) (file : Lis
   -- ---- the new blocks
 
   module _ (e : Touched) (p : Packed) (there : In e b.cache) (has : e.1.block ≡ Some p) where
-    abbrev its_block : Block
+    abbrev pub its_block : Block
     its_block = block blocks known file b of grown e p there has
 
     its_body : In (record { unit = e.1.unit; exp = p.exp; bytes = p.block }) bodies
@@ -117,7 +117,7 @@ module _ (blocks : BlockLaws) (known : FlushLaws) (laws : WriteLaws) (file : Lis
         (entry_run (new_entry e.1.hash e.1.unit p)) (entry_run r.entry) taken
         (order.deferred.back (entry_run r.entry) (map_in entry_run (olds_of b.cache) r.entry r.there))))
 
-    new_open : StandsOpen now.is_open now e.1.unit its_block
+    pub new_open : StandsOpen now.is_open now e.1.unit its_block
     new_open = record {
       inside = let c = now_count laws n h bodies olds file some can in let l = its_inside in omega arith;
       opened = gates laws n h bodies olds file some can e.1.unit its_inside
@@ -126,7 +126,7 @@ module _ (blocks : BlockLaws) (known : FlushLaws) (laws : WriteLaws) (file : Lis
       stands = new_stands;
     }
 
-    its_entry : entry_of its_block ≡ new_entry e.1.hash e.1.unit p
+    pub its_entry : entry_of its_block ≡ new_entry e.1.hash e.1.unit p
     unfolding key_hash
     its_entry =
         let f = for_key blocks known file b of grown e p there has in
@@ -134,18 +134,18 @@ module _ (blocks : BlockLaws) (known : FlushLaws) (laws : WriteLaws) (file : Lis
 
   -- ---- what stands at open units
 
-  record New (u : ℕ) (t : Block) : Type 0 where
-    touched : Touched
-    packed : Packed
-    there : In touched b.cache
-    has : touched.1.block ≡ Some packed
-    at : touched.1.unit ≡ u
-    is : its_block touched packed there has ≡ t
+  pub record New (u : ℕ) (t : Block) : Type 0 where
+    pub touched : Touched
+    pub packed : Packed
+    pub there : In touched b.cache
+    pub has : touched.1.block ≡ Some packed
+    pub at : touched.1.unit ≡ u
+    pub is : its_block touched packed there has ≡ t
 
-  record Kept (u : ℕ) (t : Block) : Type 0 where
-    stood : StandsOpen old.is_open old u t
-    stays_open : is_among olds u ≡ false
-    standing : IsStanding b (entry_of t)
+  pub record Kept (u : ℕ) (t : Block) : Type 0 where
+    pub stood : StandsOpen old.is_open old u t
+    pub stays_open : is_among olds u ≡ false
+    pub standing : IsStanding b (entry_of t)
 
   kept_of : (u : ℕ) (t : Block) → StandsOpen now.is_open now u t → u < old.count → is_among olds u ≡ false → old.is_open u ≡ true → Kept u t
   kept_of u t s l none opened =
@@ -172,7 +172,7 @@ module _ (blocks : BlockLaws) (known : FlushLaws) (laws : WriteLaws) (file : Lis
       let other = s.stands in
       record { touched = w.touched; packed = w.packed; there = w.there; has = w.has; at = at; is = cc (here, other) }
 
-  classified : (u : ℕ) (t : Block) → StandsOpen now.is_open now u t → Kept u t ⊎ New u t
+  pub classified : (u : ℕ) (t : Block) → StandsOpen now.is_open now u t → Kept u t ⊎ New u t
   classified u t s =
       let c = now_count laws n h bodies olds file some can in
       let inside = s.inside in
@@ -252,7 +252,7 @@ module _ (blocks : BlockLaws) (known : FlushLaws) (laws : WriteLaws) (file : Lis
       (its_block w.touched w.packed w.there w.has, ap now.stands (sym at) ∙ new_stands w.touched w.packed w.there w.has))
       (or_cases (old.is_open u) (is_among (news bodies) u) g.0)
 
-  none_rejected : has_no_rejects (view_of h done) ≡ true
+  pub none_rejected : has_no_rejects (view_of h done) ≡ true
   none_rejected = blocks.only h now read_now (record { blocks = have_blocks; apart = none_meet; keys = none_share })
 
   -- ---- the directory lists the blocks
@@ -265,25 +265,29 @@ module _ (blocks : BlockLaws) (known : FlushLaws) (laws : WriteLaws) (file : Lis
       subst (λ x. In x (entries (view_of h done))) (its_entry w.touched w.packed w.there w.has ∙ w.is)
       (map_in entry_of (taken (view_of h done)) (its_block w.touched w.packed w.there w.has) t)
 
+  -- a block that stood and does not go still stands
+  pub still_open : (t : Block) → In t (taken (view_of h file)) → is_among olds t.unit ≡ false → StandsOpen now.is_open now t.unit t
+  still_open t a none =
+      let stood = taken_stands h old (read blocks known file b of grown) t a in
+      let c = now_count laws n h bodies olds file some can in
+      let l = stood.inside in
+      record {
+        inside = omega arith;
+        opened = gates laws n h bodies olds file some can t.unit l
+            ∙ and_from _ _ (or_left (old.is_open t.unit) (is_among (news bodies) t.unit) stood.opened) (not_from_false _ none);
+        stands = stays laws n h bodies olds file some can t.unit l stood.opened ∙ stood.stands;
+      }
+
   standing_listed : (e : Entry) → IsStanding b e → In e (entries (view_of h done))
   standing_listed e s =
       let r = in_map entry_of (taken (view_of h file)) e (of.knows.lists.there e (filed_in b e (inl s))) in
-      let stood = taken_stands h old (read blocks known file b of grown) r.0 r.1 in
-      let c = now_count laws n h bodies olds file some can in
-      let l = stood.inside in
       let at : r.0.unit ≡ e.unit = ap (λ (x : Entry). x.unit) r.2 in
       let none : is_among olds r.0.unit ≡ false = false_from_ne_true (is_among olds r.0.unit) (λ among.
       let o = unit_from (olds_of b.cache) r.0.unit among in
       not_apart (entry_run e) (entry_run o.entry) (sym at ∙ sym o.is) (of.order.parted.beside (entry_run e) (entry_run o.entry) (entry_taken b order e s.there)
       (order.deferred.back (entry_run o.entry) (map_in entry_run (olds_of b.cache) o.entry o.there)))) in
-      let now_open : StandsOpen now.is_open now r.0.unit r.0 = record {
-        inside = omega arith;
-        opened = gates laws n h bodies olds file some can r.0.unit l
-            ∙ and_from _ _ (or_left (old.is_open r.0.unit) (is_among (news bodies) r.0.unit) stood.opened) (not_from_false _ none);
-        stands = stays laws n h bodies olds file some can r.0.unit l stood.opened ∙ stood.stands;
-      } in
       subst (λ x. In x (entries (view_of h done))) r.2
-      (map_in entry_of (taken (view_of h done)) r.0 (stands_taken h now read_now r.0.unit r.0 none_rejected now_open))
+      (map_in entry_of (taken (view_of h done)) r.0 (stands_taken h now read_now r.0.unit r.0 none_rejected (still_open r.0 r.1 none)))
 
   listed : (e : Entry) → In e b.directory → In e (entries (view_of h done))
   listed e a = ⊎_elim

@@ -1,9 +1,10 @@
 -- What the laws of the crates below say, as far as the laws of this crate rest on it.
-use Rattle.std.specs.Prelude.{◌≡◌, ◌≤◌, ◌<◌, ℕ, ◌+◌, ◌*◌, ◌%◌, ◌^◌, true, false, List, length, Some, None, Ok, bytes_eq, option_and_then}
+use Rattle.std.specs.Prelude.{◌≡◌, ◌≤◌, ◌<◌, ℕ, ◌+◌, ◌*◌, ◌%◌, ◌^◌, true, false, List, [], length, Some, None, Ok, bytes_eq, option_and_then}
 use Rattle.std.specs.List.{AllByRecursion}
 use Rattle.host_model.specs.Disk.{DiffersIn}
 use Rattle.host_model.specs.Writes.{ranges_of, with_writes}
 use Rattle.term_model.specs.TermValue.{TermValue}
+use Rattle.table_model.specs.Table.{objects_of}
 use Rattle.space_model.specs.Sizes.{unit_size, head_size}
 use Rattle.space_model.specs.Runs.{Run, run, front_of_smallest, place}
 use Rattle.space_model.specs.Apart.{In, SameMembers, Apart, IsRun}
@@ -15,10 +16,10 @@ use Rattle.file_model.specs.declared.head.Located.{Located}
 use Rattle.file_model.specs.Layout.{page_size, page_of, segment_end, whole_segments, gate_at, open_byte, closed_byte, is_open_at}
 use Rattle.file_model.specs.LayoutLaws.{EndsInSegment}
 use Rattle.file_model.specs.Header.{units_per_segment, current_copy, head_of, located, segments_of}
-use Rattle.file_model.specs.Block.{one_key}
+use Rattle.file_model.specs.Block.{Block, one_key}
 use Rattle.file_model.specs.View.{Units, units_in, view}
 use Rattle.file_model.specs.Fit.{has_no_rejects}
-use Rattle.file_model.specs.Gates.{AreRead, OpenAtTaken, opened, closed}
+use Rattle.file_model.specs.Gates.{Gates, AreRead, StandsOpen, NoneMeet, OpenAtTaken, table_with, opened, closed}
 use Rattle.file_model.specs.Images.{ImagesAgree}
 use Rattle.file_model.specs.GateWrites.{gate_writes, AreWhole, OnlyGatesDiffer}
 use Rattle.file_model.specs.Free.{IsFreeIn}
@@ -91,3 +92,5 @@ pub record WriteLaws : Type 0 where
       ≡ closed us (λ w. is_open_at image (gate_at per_segment w)) u
   pub flushed : (per_segment : ℕ) (h : Head) (bodies : List Body) (olds old : List ℕ) → 0 < per_segment → IsFlushable per_segment h bodies olds old
       → IsFlushed per_segment h bodies olds old
+  pub no_block : (h : Head) (units : Units) (gates : Gates) (k : TermValue) → AreRead h units → NoneMeet gates units
+      → ((u : ℕ) (b : Block) → StandsOpen gates units u b → b.key ≡ k → ⊥) → objects_of (table_with h units gates) k ≡ []

@@ -1,9 +1,16 @@
 -- What a flush writes of a book, and the book after it. This project's own.
-use Rattle.std.specs.Prelude.{ℕ, List, [], map, filter_map, Option, option_map}
+use Rattle.std.specs.Prelude.{◌≡◌, ℕ, List, [], map, filter_map, Option, Some, None, option_map}
+use Rattle.term_model.specs.TermValue.{TermValue}
+use Rattle.table_model.specs.Table.{objects_of}
+use Rattle.etf_model.specs.Canonical.{spelled}
+use Rattle.space_model.specs.Apart.{In}
+use Rattle.file_model.specs.declared.block.Packed.{Packed}
+use Rattle.file_model.specs.Flush.{table_in}
 use Rattle.file_model.specs.BodyWrites.{Body}
 use Rattle.write_cache.specs.declared.pending.Pending.{Pending}
-use Rattle.write_cache.specs.Waiting.{Waiting}
+use Rattle.write_cache.specs.Waiting.{Waiting, state_of}
 use Rattle.book_model.specs.Book.{Book, olds_of}
+use Rattle.book_model.specs.Planning.{IsBlockFor}
 
 -- the block of a key that waits, as it is written
 abbrev pub body_of : Pending → Option Body
@@ -19,3 +26,14 @@ old_units w = map (λ e. e.unit) (olds_of w)
 -- the book when all is written: deferred runs are free, and nothing waits
 abbrev pub settled : Book → Book
 settled b = record b { space = record b.space { deferred = [] }; cache = [] }
+
+-- ---- what each key has then
+
+-- Each key that waits has the objects of its new block, or none where it has no block. The others have what they had.
+pub record HaveNew (segment_units : ℕ) (b : Book) (old new : List ℕ) : Type 0 where
+  pub comes : (e : List ℕ × Pending) (p : Packed) → In e b.cache → e.1.block ≡ Some p → (f : IsBlockFor b.place.head e.0 p)
+      → objects_of (table_in segment_units b.place.head new) f.term ≡ f.objects
+  pub goes : (e : List ℕ × Pending) (k : TermValue) → In e b.cache → e.1.block ≡ None → spelled k ≡ e.0
+      → objects_of (table_in segment_units b.place.head new) k ≡ []
+  pub stays : (k : TermValue) → state_of b.cache (spelled k) ≡ None
+      → objects_of (table_in segment_units b.place.head new) k ≡ objects_of (table_in segment_units b.place.head old) k

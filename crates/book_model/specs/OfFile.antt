@@ -1,5 +1,5 @@
 -- When a book is that of a file. This project's own.
-use Rattle.std.specs.Prelude.{◌≡◌, ◌≤◌, ℕ, ◌*◌, true, List, [], ◌∷◌, map, Option, Some, None, Ok}
+use Rattle.std.specs.Prelude.{◌≡◌, ◌≤◌, ◌<◌, ℕ, ◌*◌, true, false, List, [], ◌∷◌, map, Option, Some, None, Ok}
 use Rattle.etf_model.specs.Canonical.{spelled}
 use Rattle.space_model.specs.Runs.{Run, is_free}
 use Rattle.space_model.specs.Apart.{In, Pairs, SameMembers}
@@ -10,7 +10,7 @@ use Rattle.file_model.specs.declared.head.Head.{Head}
 use Rattle.file_model.specs.declared.head.Located.{Located}
 use Rattle.file_model.specs.Header.{units_per_segment, is_allowed, located, segments_of}
 use Rattle.file_model.specs.Block.{Block}
-use Rattle.file_model.specs.View.{View, view_of}
+use Rattle.file_model.specs.View.{Units, View, view_of}
 use Rattle.file_model.specs.Taken.{taken, entry_of, entries}
 use Rattle.file_model.specs.Fit.{has_segments, has_no_rejects}
 use Rattle.file_model.specs.Free.{IsFreeIn}
@@ -86,6 +86,13 @@ pub record ShowsSame (old new : View) : Type 0 where
   pub kind : new.head.kind ≡ old.head.kind
   pub keypos : new.head.keypos ≡ old.head.keypos
   pub open_units : new.open_units ≡ old.open_units
+
+-- More units, with closed gates, behind those that were there; what is behind closed gates may be anything.
+pub record AddsClosed (old new : Units) : Type 0 where
+  pub count : old.count ≤ new.count
+  pub gates : (u : ℕ) → u < old.count → new.is_open u ≡ old.is_open u
+  pub behind : (u : ℕ) → u < old.count → old.is_open u ≡ true → new.stands u ≡ old.stands u
+  pub shut : (u : ℕ) → old.count ≤ u → u < new.count → new.is_open u ≡ false
 
 -- a book with this header in place of its own
 abbrev pub placed_at : Book → Located → Book

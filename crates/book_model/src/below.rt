@@ -3,7 +3,7 @@ ghost use Rattle.book_model.specs.Below.{PlaceLaws, LedgerLaws, BlockLaws, Flush
 
 use file_model::flush_laws::after_a_flush_each_key_has_its_new_objects;
 use file_model::laws::{
-    a_block_stands_as_it_is_read, a_free_run_meets_no_block_and_has_no_open_gate, a_header_is_located_where_it_is_read, gates_and_units_do_not_meet,
+    a_block_stands_as_it_is_read, a_free_run_meets_no_block_and_has_no_open_gate, a_header_is_located_where_it_is_read, a_key_has_the_objects_of_its_one_block, gates_and_units_do_not_meet,
     open_gates_stand_at_taken_units_alone_where_nothing_is_rejected, what_is_seen_depends_on_gates_and_on_what_stands_behind_open_ones,
 };
 use file_model::packing_laws::the_block_of_objects_stands;
@@ -58,4 +58,5 @@ pub(crate) fn writes_below()
     torn_gates_open_or_close_some();
     written_gates_are_open_or_closed();
     after_a_flush_each_key_has_its_new_objects();
+    a_key_has_the_objects_of_its_one_block();
 }

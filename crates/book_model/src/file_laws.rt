@@ -1,14 +1,15 @@
 //! Laws of a book that is that of a file, as contracts of functions that do nothing.
 ghost use Rattle.std.specs.Prelude.{◌≡◌, ℕ, true, List};
+ghost use Rattle.file_model.specs.declared.head.Head.{Head};
 ghost use Rattle.file_model.specs.declared.head.Located.{Located};
 ghost use Rattle.file_model.specs.Header.{units_per_segment};
-ghost use Rattle.file_model.specs.View.{view_of};
+ghost use Rattle.file_model.specs.View.{Units, view, view_of};
 ghost use Rattle.file_model.specs.Fit.{has_segments, has_no_rejects};
 ghost use Rattle.book_model.specs.declared.change.Change.{Change};
 ghost use Rattle.book_model.specs.Book.{Book, IsParted};
 ghost use Rattle.book_model.specs.Planning.{planned};
 ghost use Rattle.book_model.specs.LedgerOf.{AreStanding};
-ghost use Rattle.book_model.specs.OfFile.{IsOf, Follows, AreChangesOf, MayBeOf, placed_at, IsOpened, standing_of};
+ghost use Rattle.book_model.specs.OfFile.{IsOf, Follows, AreChangesOf, ShowsSame, AddsClosed, MayBeOf, placed_at, IsOpened, standing_of};
 
 use crate::below::{blocks_below, places_and_states};
 
@@ -31,6 +32,12 @@ pub fn a_command_leaves_a_book_of_its_file()
 /// A book is that of each file that shows the same, with its header.
 pub fn a_file_that_shows_the_same_has_the_same_book()
     ensures { (old new : List ℕ) (b : Book) (place : Located) → IsOf old b → MayBeOf old new b place → IsOf new (placed_at b place) }
+{}
+
+/// More units with closed gates, behind those that were there, show nothing.
+pub fn added_units_with_closed_gates_show_nothing()
+    ensures { (old_head new_head : Head) (old new : Units) → new_head.kind ≡ old_head.kind → new_head.keypos ≡ old_head.keypos → AddsClosed old new
+        → ShowsSame (view old_head old) (view new_head new) }
 {}
 
 /// The blocks of the file stand for the keys of its book.

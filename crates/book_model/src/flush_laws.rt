@@ -1,10 +1,14 @@
 //! Laws of a book that is flushed, as contracts of functions that do nothing.
 ghost use Rattle.std.specs.Prelude.{◌≡◌, ℕ, List};
+ghost use Rattle.space_model.specs.Apart.{SameMembers};
+ghost use Rattle.space_model.specs.Ledger.{Standing, flush};
 ghost use Rattle.file_model.specs.Header.{units_per_segment};
+ghost use Rattle.file_model.specs.View.{view_of};
 ghost use Rattle.file_model.specs.Flush.{IsFlushable, without_olds};
 ghost use Rattle.book_model.specs.Book.{Book};
-ghost use Rattle.book_model.specs.OfFile.{IsOf};
-ghost use Rattle.book_model.specs.Flushing.{bodies_of, old_units, settled};
+ghost use Rattle.book_model.specs.LedgerOf.{ledger_of};
+ghost use Rattle.book_model.specs.OfFile.{IsOf, standing_of};
+ghost use Rattle.book_model.specs.Flushing.{bodies_of, old_units, settled, HaveNew};
 
 use crate::below::{blocks_below, new_blocks_below, writes_below};
 
@@ -21,6 +25,31 @@ pub fn a_book_of_a_file_may_be_flushed()
 pub fn after_a_flush_the_book_is_that_of_the_new_file()
     ensures { (file : List ℕ) (b : Book) → IsOf file b → b.place.head.segments ≡ b.space.segments
         → IsOf (without_olds (units_per_segment b.place.head) (bodies_of b.cache) (old_units b.cache) file) (settled b) }
+{
+    blocks_below();
+    new_blocks_below();
+    writes_below();
+}
+
+/// When all is written each key that waited has the objects of its new block, or none where it has no block, and the other
+/// keys have what they had.
+pub fn after_a_flush_each_key_that_waited_has_its_new_objects()
+    ensures { (file : List ℕ) (b : Book) → IsOf file b → b.place.head.segments ≡ b.space.segments
+        → HaveNew (units_per_segment b.place.head) b file
+        (without_olds (units_per_segment b.place.head) (bodies_of b.cache) (old_units b.cache) file) }
+{
+    blocks_below();
+    new_blocks_below();
+    writes_below();
+}
+
+/// When all is written the ledger of the book is the flushed one, but for the order of the keys that stand.
+pub fn after_a_flush_the_ledger_is_the_flushed_one()
+    ensures standing { (file : List ℕ) (b : Book) → IsOf file b → b.place.head.segments ≡ b.space.segments
+        → SameMembers (flush (ledger_of (standing_of (view_of b.place.head file)) b)).standing
+        (standing_of (view_of b.place.head (without_olds (units_per_segment b.place.head) (bodies_of b.cache) (old_units b.cache) file))) }
+    ensures rest { (b : Book) (before standing : List Standing) → b.place.head.segments ≡ b.space.segments
+        → record (flush (ledger_of before b)) { standing = standing } ≡ ledger_of standing (settled b) }
 {
     blocks_below();
     new_blocks_below();

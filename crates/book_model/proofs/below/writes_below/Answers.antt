@@ -9,4 +9,5 @@ returns c = record {
   gates_opened = c.written_gates_are_open_or_closed.ensures.opened;
   gates_closed = c.written_gates_are_open_or_closed.ensures.closed;
   flushed = c.after_a_flush_each_key_has_its_new_objects.ensures;
+  no_block = c.a_key_has_the_objects_of_its_one_block.ensures.none;
 }
