@@ -1,10 +1,9 @@
 -- Books that are alike.
-use Rattle.std.proofs.Common.{◌≡◌, ◌≤◌, ◌⊎◌, inl, inr, ⊎_elim, ℕ, zero, suc, ◌+◌, ◌-◌, ◌*◌, List, [], ◌∷◌, ◌++◌, map, Option, Some, None, Result, Ok, Err, refl, sym, ap, ◌∙◌, subst}
+use Rattle.std.proofs.Common.{◌≡◌, ◌≤◌, inl, inr, ⊎_elim, ℕ, ◌-◌, List, [], ◌∷◌, map, Option, Some, None, Result, Ok, Err, refl, sym, ap, ◌∙◌, subst}
 use Rattle.term_model.specs.Hash.{hash_of}
-use Rattle.space_model.specs.Least.{log2}
 use Rattle.space_model.specs.Runs.{Run, run}
 use Rattle.space_model.specs.Apart.{In, Pairs, SameMembers}
-use Rattle.space_model.specs.Ledger.{Standing, Placed, or_grown, place_growing}
+use Rattle.space_model.specs.Ledger.{Standing, Placed, place_growing}
 use Rattle.file_model.specs.declared.block.Packed.{Packed}
 use Rattle.file_model.specs.declared.entry.Entry.{Entry}
 use Rattle.file_model.specs.declared.head.Located.{Located}
@@ -12,8 +11,8 @@ use Rattle.file_model.specs.Header.{is_allowed}
 use Rattle.write_cache.specs.declared.pending.Pending.{Pending}
 use Rattle.write_cache.specs.Waiting.{Waiting, state_of, with_state, HasDistinctKeys}
 use Rattle.book_model.specs.declared.change.Change.{Change}
-use Rattle.book_model.specs.Book.{held, IsParted, Book, entry_run, entry_runs, new_entry, pending_entries, olds_of, OtherUnit, MeetsNot, IsInOrder, IsWellFormed, IsAlike, AreAlike}
-use Rattle.book_model.specs.Planning.{IsStanding, without_run, without_entry, with_deferred, emptied, released, given, grown, moved, kept_unit, served_at, served_with, served, serve, after_served, serve_all, or_before, planned}
+use Rattle.book_model.specs.Book.{held, IsParted, Book, entry_run, entry_runs, new_entry, pending_entries, olds_of, OtherUnit, MeetsNot, IsWellFormed, IsAlike, AreAlike}
+use Rattle.book_model.specs.Planning.{IsStanding, without_run, without_entry, with_deferred, emptied, released, grown, moved, kept_unit, served_at, served_with, served, serve, after_served, serve_all, or_before, planned}
 use Rattle.book_model.specs.LedgerOf.{filed_entries, AreStanding, ledger_of}
 use Rattle.book_model.specs.Below.{LedgerLaws}
 use Rattle.book_model.proofs.Members.{same_self, same_back, same_through, same_append, same_map, same_more, pairs_also}

@@ -1,5 +1,5 @@
 -- The blocks behind open gates are the taken ones, where open gates stand at taken units alone.
-use Rattle.std.proofs.Common.{◌≡◌, ◌≤◌, ◌<◌, ◌⊎◌, inl, inr, ⊎_elim, ℕ, zero, suc, ◌+◌, ◌^◌, Bool, true, false, List, [], ◌∷◌, Some, None, Ok, Err, Option, refl, sym, ap, ◌∙◌, subst, arith}
+use Rattle.std.proofs.Common.{◌≡◌, ◌≤◌, ◌<◌, ◌⊎◌, inl, inr, ⊎_elim, ℕ, zero, suc, ◌+◌, Bool, true, false, List, [], ◌∷◌, Some, None, Ok, Err, Option, refl, sym, ap, ◌∙◌, subst, arith}
 use Rattle.std.specs.Prelude.{find}
 use Rattle.std.specs.List.{AllByRecursion}
 use Rattle.std.proofs.lemmas.Bool.{cases_Bool, cases_order, both_ways}
@@ -10,7 +10,7 @@ use Rattle.file_model.specs.Block.{Block, Standing}
 use Rattle.file_model.specs.View.{Units, OpenUnit, View, with_unit, view, open_from}
 use Rattle.file_model.specs.Taken.{covers, block_has, by_key, by_cover, judged, taken_next, taken_above, taken, rejects_next, rejects_above, rejects}
 use Rattle.file_model.specs.Fit.{are_none, has_no_rejects}
-use Rattle.file_model.specs.Gates.{Gates, IsRead, AreRead, StandsOpen}
+use Rattle.file_model.specs.Gates.{Gates, AreRead, StandsOpen}
 
 pub of_all : {X : Type 0} (P : X → Type 0) (xs : List X) (x : X) → AllByRecursion P xs → In x xs → P x
 of_all P [] x all a = absurd a

@@ -1,29 +1,23 @@
 -- The touched keys of a command, one after the other.
-use Rattle.std.proofs.Common.{◌≡◌, ◌≤◌, ◌⊎◌, inl, inr, ⊎_elim, ℕ, true, false, List, [], ◌∷◌, Option, Some, None, Result, Ok, Err, refl, sym, ap, ◌∙◌, subst, arith}
+use Rattle.std.proofs.Common.{◌≡◌, inl, inr, ⊎_elim, ℕ, false, List, [], ◌∷◌, Some, Result, Ok, Err, refl, sym, ap, ◌∙◌, subst, arith}
 use Rattle.std.specs.Prelude.{bytes_eq}
 use Rattle.space_model.specs.Runs.{run}
 use Rattle.space_model.specs.Apart.{In, Pairs, SameMembers}
-use Rattle.space_model.specs.Ledger.{Standing}
-use Rattle.file_model.specs.declared.block.Packed.{Packed}
 use Rattle.file_model.specs.declared.entry.Entry.{Entry}
-use Rattle.file_model.specs.Taken.{entries}
-use Rattle.file_model.specs.View.{View}
 use Rattle.write_cache.specs.declared.pending.Pending.{Pending}
-use Rattle.write_cache.specs.Waiting.{Waiting, state_of, with_state}
+use Rattle.write_cache.specs.Waiting.{state_of, with_state}
 use Rattle.book_model.specs.declared.change.Change.{Change}
-use Rattle.book_model.specs.Book.{held, Book, entry_run, new_entry, pending_entry, pending_entries, IsWellFormed}
-use Rattle.book_model.specs.Planning.{IsBlockFor, IsStanding, IsChange, OtherKey, OtherEntry, AreChanges, without_entry, emptied, released, grown, moved, serve, after_served, serve_all, or_before, planned}
-use Rattle.book_model.specs.LedgerOf.{filed_entries, AreStanding}
-use Rattle.book_model.specs.OfFile.{IsOld, Knows, AreChangesOf}
-use Rattle.book_model.proofs.Members.{append_in, same_through, same_map, same_back}
-use Rattle.book_model.proofs.Waits.{Touched, in_put, found_in}
+use Rattle.book_model.specs.Book.{Book, entry_run, new_entry, pending_entry, IsWellFormed}
+use Rattle.book_model.specs.Planning.{IsBlockFor, IsStanding, IsChange, OtherKey, OtherEntry, AreChanges, emptied, released, grown, moved, serve, after_served, serve_all, or_before, planned}
+use Rattle.book_model.specs.LedgerOf.{filed_entries}
+use Rattle.book_model.proofs.Members.{append_in, same_through}
 use Rattle.book_model.proofs.Told.{other_told, from_put}
 use Rattle.book_model.proofs.Runs.{not_apart, same_unit, entry_stays}
-use Rattle.book_model.proofs.Released.{leaves, entry_taken, released_formed}
+use Rattle.book_model.proofs.Released.{leaves, entry_taken}
 use Rattle.book_model.proofs.Given.{with_block}
 use Rattle.book_model.proofs.Filed.{pending_were, serve_filed}
 use Rattle.book_model.specs.Below.{PlaceLaws}
-use Rattle.book_model.proofs.Served.{Moves, ok_book, same_book, serve_ways, serve_formed, grown_formed, way_formed}
+use Rattle.book_model.proofs.Served.{Moves, same_book, serve_ways, serve_formed, grown_formed, way_formed}
 
 -- ---- what is known of the changes of other keys is known behind it
 
@@ -73,11 +67,13 @@ module _ (laws : PlaceLaws) (n : ℕ) (b : Book) (c : Change) (formed : IsWellFo
         pending = λ s has. change.pending s (sym same ∙ has);
         standing = λ none e old.
             let was = change.standing (sym same ∙ none) e old in
-            let kept = released_standing e was.0 (λ g has one. other_entry g e has old one) in
-            (⊎_elim
-            (λ x. subst (λ y. IsStanding y e) (sym x.is) kept)
-            (λ m. subst (λ y. IsStanding y e) (sym m.is) (moved_standing new m e kept))
-            (serve_ways laws n b c formed can new is), was.1);
+            let kept = released_standing e was.0 (λ g has one. other_entry g e has old one) in (
+              ⊎_elim
+                  (λ x. subst (λ y. IsStanding y e) (sym x.is) kept)
+                  (λ m. subst (λ y. IsStanding y e) (sym m.is) (moved_standing new m e kept))
+                  (serve_ways laws n b c formed can new is),
+              was.1,
+            );
         next = λ p has. subst (λ place. IsBlockFor place.head d.key p) (sym (same_place new is)) (change.next p has);
       }
 
@@ -125,8 +121,8 @@ pub planned_filed : (laws : PlaceLaws) (n : ℕ) (cs : List Change) (b : Book) �
 planned_filed laws n cs b formed are = (planned_kept n
     (λ x. IsWellFormed n x × SameMembers (filed_entries b) (filed_entries x)) IsChange
     (λ x new c kept can is. (
-    serve_formed laws n x c kept.0 can new is,
-    same_through (filed_entries b) (filed_entries x) (filed_entries new) kept.1 (serve_filed laws n x c new kept.0 can is),
+      serve_formed laws n x c kept.0 can new is,
+      same_through (filed_entries b) (filed_entries x) (filed_entries new) kept.1 (serve_filed laws n x c new kept.0 can is),
     ))
     (λ x new c d kept can change keys olds is. carries laws n x c kept.0 can new d change keys olds is)
     cs b (formed, record { there = λ e a. a; back = λ e a. a }) are.each are.keys are.entries

@@ -1,5 +1,5 @@
 -- The entries of the blocks in the file are the same, whatever is served.
-use Rattle.std.proofs.Common.{◌≡◌, ◌⊎◌, inl, inr, ⊎_elim, ℕ, Bool, true, false, ◌==◌, List, ◌∷◌, ◌++◌, Option, Some, None, Ok, refl, sym, ap, ◌∙◌, subst}
+use Rattle.std.proofs.Common.{◌≡◌, ◌⊎◌, inl, inr, ⊎_elim, ℕ, Bool, ◌==◌, List, Option, Some, None, Ok, refl, sym, ap, ◌∙◌, subst}
 use Rattle.std.specs.Prelude.{not, filter, option_map}
 use Rattle.std.specs.List.{list_any}
 use Rattle.std.proofs.lemmas.Bool.{cases_Bool, both_ways, eqb-true, eq-eqb, not-true, not_from_false, false_from_ne_true}
@@ -8,19 +8,19 @@ use Rattle.space_model.specs.Apart.{In, SameMembers}
 use Rattle.file_model.specs.declared.block.Packed.{Packed}
 use Rattle.file_model.specs.declared.entry.Entry.{Entry}
 use Rattle.write_cache.specs.declared.pending.Pending.{Pending}
-use Rattle.write_cache.specs.Waiting.{Waiting, state_of}
+use Rattle.write_cache.specs.Waiting.{state_of}
 use Rattle.book_model.specs.declared.change.Change.{Change}
 use Rattle.book_model.specs.Book.{Book, entry_run, new_entry, pending_entry, pending_entries, olds_of, IsWellFormed}
 use Rattle.book_model.specs.Planning.{IsStanding, IsChange, without_entry, emptied, released, given, grown, moved, serve}
 use Rattle.book_model.specs.LedgerOf.{filed_entries}
 use Rattle.book_model.proofs.Members.{append_in, in_append, in_filter, filter_in, filter_map_in, any_passes, passes_any, same_through}
 use Rattle.book_model.proofs.Waits.{Touched, found_in, state_in}
-use Rattle.book_model.proofs.Told.{OfKey, OfOther, from_told, other_told, put_told, other_stays, from_put}
+use Rattle.book_model.proofs.Told.{from_told, other_told, put_told, other_stays, from_put}
 use Rattle.book_model.proofs.Runs.{not_apart, same_unit, entry_was, entry_left, entry_stays}
 use Rattle.book_model.proofs.Released.{entry_taken, none_some, leaves}
 use Rattle.book_model.proofs.Given.{CanGive, with_block, free_taken, given_olds}
 use Rattle.book_model.specs.Below.{PlaceLaws}
-use Rattle.book_model.proofs.Served.{Moves, serve_ways, given_way, way_formed}
+use Rattle.book_model.proofs.Served.{serve_ways, given_way, way_formed}
 
 -- ---- the list, by its members
 

@@ -1,12 +1,11 @@
 -- A book of a file has what its flush needs.
-use Rattle.std.proofs.Common.{◌≡◌, ◌≤◌, ◌<◌, ◌⊎◌, inl, inr, ⊎_elim, ℕ, ◌+◌, ◌*◌, ◌%◌, ◌^◌, ◌==◌, Bool, true, false, nat_le, List, [], ◌∷◌, ◌++◌, length, map, Option, Some, None, Ok, refl, sym, ap, ◌∙◌, subst, arith, append-nil}
-use Rattle.std.specs.Prelude.{bytes_eq, filter_map, option_map}
+use Rattle.std.proofs.Common.{◌≡◌, ◌≤◌, ◌<◌, ◌⊎◌, inl, inr, ⊎_elim, ℕ, ◌+◌, ◌*◌, ◌^◌, ◌==◌, true, List, [], ◌∷◌, length, map, Option, Some, None, refl, sym, ap, ◌∙◌, subst, arith}
+use Rattle.std.specs.Prelude.{option_map}
 use Rattle.std.specs.List.{AllByRecursion}
 use Rattle.std.proofs.Math.Pow.{pow_mono}
 use Rattle.std.proofs.lemmas.Nat.{pow_pos}
 use Rattle.std.proofs.lemmas.Bool.{leb-true, eqb-true, eq-eqb, or_cases, or_left, or_right}
 use Rattle.std.proofs.lemmas.List.{length-append}
-use Rattle.term_model.specs.TermValue.{TermValue}
 use Rattle.etf_model.specs.Canonical.{spelled}
 use Rattle.space_model.specs.Sizes.{unit_size, head_size}
 use Rattle.space_model.specs.Least.{log2}
@@ -14,27 +13,24 @@ use Rattle.space_model.specs.Apart.{In, Pairs, IsRun}
 use Rattle.file_model.specs.declared.block.Packed.{Packed}
 use Rattle.file_model.specs.declared.entry.Entry.{Entry}
 use Rattle.file_model.specs.declared.head.Head.{Head}
-use Rattle.file_model.specs.Layout.{run_size, segment_end, whole_segments, gate_at, is_open_at}
-use Rattle.file_model.specs.LayoutLaws.{EndsInSegment}
+use Rattle.file_model.specs.Layout.{whole_segments}
 use Rattle.file_model.specs.Header.{units_per_segment, segments_in}
-use Rattle.file_model.specs.Block.{Block, Standing, standing}
-use Rattle.file_model.specs.View.{Units, view, view_of, units_in}
-use Rattle.file_model.specs.Taken.{taken, entry_of}
-use Rattle.file_model.specs.Fit.{has_segments}
+use Rattle.file_model.specs.Block.{Block}
+use Rattle.file_model.specs.View.{Units, view_of, units_in}
+use Rattle.file_model.specs.Taken.{entry_of}
 use Rattle.file_model.specs.Gates.{AreRead, StandsOpen, is_among}
 use Rattle.file_model.specs.Free.{IsFreeIn}
-use Rattle.file_model.specs.GateWrites.{AreOpen}
 use Rattle.file_model.specs.BodyWrites.{Body, head_bytes, HasRoom, MeetsNone, RunsApart, Pairs as BodyPairs, IsPacked}
 use Rattle.file_model.specs.Packing.{payload_of}
 use Rattle.file_model.specs.Flush.{IsNew, OtherKeys, IsFlushable}
 use Rattle.write_cache.specs.declared.pending.Pending.{Pending}
 use Rattle.write_cache.specs.Waiting.{Waiting}
-use Rattle.book_model.specs.Book.{Book, entry_run, new_entry, pending_entry, pending_entries, olds_of, MeetsNot, IsInOrder, IsWellFormed}
+use Rattle.book_model.specs.Book.{Book, entry_run, new_entry, pending_entry, pending_entries, olds_of, MeetsNot}
 use Rattle.book_model.specs.Planning.{IsBlockFor}
-use Rattle.book_model.specs.OfFile.{HasBlock, IsOf, Follows}
+use Rattle.book_model.specs.OfFile.{IsOf}
 use Rattle.book_model.specs.Flushing.{body_of, bodies_of, old_units}
 use Rattle.book_model.specs.Below.{BlockLaws, FlushLaws}
-use Rattle.book_model.proofs.Members.{map_in, in_map, filter_map_in, in_filter_map, Through, pairs_also, pairs_filter_map, filter_map_pairs}
+use Rattle.book_model.proofs.Members.{filter_map_in, in_filter_map, Through, pairs_also, pairs_filter_map, filter_map_pairs}
 use Rattle.book_model.proofs.Waits.{Touched, OtherWaits, distinct_pairs, other_key}
 use Rattle.book_model.proofs.Blocks.{all_of, taken_stands, stands_taken}
 use Rattle.book_model.proofs.Headers.{page_there}

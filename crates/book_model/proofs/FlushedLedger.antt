@@ -1,13 +1,12 @@
 -- A flush does to the ledger of a book what the ledger's definition says.
-use Rattle.std.proofs.Common.{◌≡◌, ◌⊎◌, inl, inr, ⊎_elim, ℕ, Bool, true, false, List, [], ◌∷◌, ◌++◌, map, filter, Option, Some, None, Ok, refl, sym, ap, ◌∙◌, subst}
+use Rattle.std.proofs.Common.{◌≡◌, inl, inr, ⊎_elim, ℕ, true, false, List, [], filter, Option, Some, None, refl, sym, ap, ◌∙◌, subst}
 use Rattle.std.specs.Prelude.{not, bytes_eq, filter_map, option_map}
 use Rattle.std.proofs.lemmas.Bool.{both_ways, not-true, not_from_false, false_from_ne_true}
 use Rattle.etf_model.specs.Canonical.{spelled}
-use Rattle.space_model.specs.Runs.{Run, run}
+use Rattle.space_model.specs.Runs.{run}
 use Rattle.space_model.specs.Apart.{In, SameMembers}
-use Rattle.space_model.specs.Ledger.{Packed as Payload, Pending as LedgerPending, Standing, Ledger, is_pending, standing_of as standing_of_pending, flushed_standing, flush}
+use Rattle.space_model.specs.Ledger.{Packed as Payload, Pending as LedgerPending, Standing, is_pending, standing_of as standing_of_pending, flushed_standing, flush}
 use Rattle.file_model.specs.declared.block.Packed.{Packed}
-use Rattle.file_model.specs.declared.entry.Entry.{Entry}
 use Rattle.file_model.specs.declared.head.Head.{Head}
 use Rattle.file_model.specs.Header.{units_per_segment}
 use Rattle.file_model.specs.Block.{Block}
@@ -15,10 +14,9 @@ use Rattle.file_model.specs.View.{Units, view_of, units_in}
 use Rattle.file_model.specs.Taken.{taken, entry_of}
 use Rattle.file_model.specs.Gates.{is_among}
 use Rattle.file_model.specs.Flush.{without_olds}
-use Rattle.write_cache.specs.declared.pending.Pending.{Pending}
 use Rattle.write_cache.specs.PendingState.{payload_at, in_ledger}
 use Rattle.write_cache.specs.Waiting.{Waiting, ledger_of as pending_of}
-use Rattle.book_model.specs.Book.{Book, entry_run, new_entry, olds_of}
+use Rattle.book_model.specs.Book.{Book, olds_of}
 use Rattle.book_model.specs.LedgerOf.{ledger_of}
 use Rattle.book_model.specs.OfFile.{IsOf, standing_block, standing_of}
 use Rattle.book_model.specs.Flushing.{bodies_of, old_units, settled}
@@ -28,7 +26,7 @@ use Rattle.book_model.proofs.Waits.{Touched, same_key, key_self}
 use Rattle.book_model.proofs.Blocks.{taken_stands, stands_taken}
 use Rattle.book_model.proofs.Flushable.{unit_among, for_key, read}
 use Rattle.book_model.proofs.NewObjects.{goes_with}
-use Rattle.book_model.proofs.Settled.{Kept, New, its_block, its_entry, new_open, classified, none_rejected, read_now, still_open}
+use Rattle.book_model.proofs.Settled.{its_block, new_open, classified, none_rejected, read_now, still_open}
 
 pending_there : (w : Waiting) (e : Touched) → In e w → is_pending (pending_of w) e.0 ≡ true
 pending_there w e a = passes_any (λ (p : LedgerPending). bytes_eq p.key e.0) (pending_of w) (in_ledger e.0 e.1) (map_in (λ (x : Touched). in_ledger x.0 x.1) w e a) (key_self e.0)

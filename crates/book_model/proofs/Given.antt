@@ -1,16 +1,15 @@
 -- A key that waits without a block gets one.
-use Rattle.std.proofs.Common.{◌≡◌, ◌⊎◌, inl, inr, ⊎_elim, ℕ, ◌*◌, List, [], ◌∷◌, Option, Some, None, refl, sym, ap, ◌∙◌, subst}
+use Rattle.std.proofs.Common.{◌≡◌, inl, inr, ⊎_elim, ℕ, ◌*◌, List, Some, None, refl, sym, ap, ◌∙◌, subst}
 use Rattle.term_model.specs.Hash.{hash_of}
 use Rattle.space_model.specs.Least.{log2}
 use Rattle.space_model.specs.Runs.{Run, run}
-use Rattle.space_model.specs.Apart.{In, Pairs, SameMembers, Apart, IsRun}
+use Rattle.space_model.specs.Apart.{In, SameMembers, Apart, IsRun}
 use Rattle.file_model.specs.declared.block.Packed.{Packed}
 use Rattle.file_model.specs.declared.entry.Entry.{Entry}
 use Rattle.write_cache.specs.declared.pending.Pending.{Pending}
-use Rattle.write_cache.specs.Waiting.{Waiting, state_of, with_state}
-use Rattle.book_model.specs.Book.{held, IsParted, Book, entry_run, entry_runs, new_entry, pending_entry, pending_entries, olds_of, OtherUnit, IsInOrder, IsWellFormed}
+use Rattle.book_model.specs.Book.{held, IsParted, Book, entry_run, entry_runs, new_entry, pending_entry, olds_of, OtherUnit, IsInOrder, IsWellFormed}
 use Rattle.book_model.specs.Planning.{given}
-use Rattle.book_model.proofs.Members.{append_in, in_append, same_map, same_more, same_through}
+use Rattle.book_model.proofs.Members.{append_in, same_map, same_more, same_through}
 use Rattle.book_model.proofs.Waits.{Touched, state_in, in_put}
 use Rattle.book_model.proofs.Told.{OfOther, told_same, told_pairs, from_put, other_told}
 use Rattle.book_model.proofs.Runs.{not_apart}

@@ -1,5 +1,5 @@
 -- A header that is read has fields that are allowed, and its file has a whole page.
-use Rattle.std.proofs.Common.{◌≡◌, ◌≤◌, ⊎_elim, ℕ, Bool, true, false, cond, List, length, Option, Some, None, Result, Ok, Err, refl, ◌∙◌, subst, sym}
+use Rattle.std.proofs.Common.{◌≡◌, ◌≤◌, ⊎_elim, ℕ, Bool, true, false, cond, List, length, Option, Some, None, Result, Ok, Err, refl, subst}
 use Rattle.std.specs.Prelude.{not, ◌==◌, nat_lt, slice_index, slice_range, bytes_eq}
 use Rattle.std.proofs.lemmas.Bool.{cases_Bool, ltb-false}
 use Rattle.term_model.specs.declared.kind.Kind.{Kind}
@@ -8,7 +8,7 @@ use Rattle.file_model.specs.declared.head.FileState.{FileState}
 use Rattle.file_model.specs.declared.head.Unreadable.{Unreadable}
 use Rattle.file_model.specs.declared.head.Unreadable.TheVariants.{NotDets, Version}
 use Rattle.file_model.specs.Layout.{page_size, page_of}
-use Rattle.file_model.specs.Header.{the_version, magic, state_of, kind_of, is_allowed, has_zeros, number_at, index_of, if_allowed, head_with, head_in, body_in, head_of_copy, current_copy, head_of_page, head_of}
+use Rattle.file_model.specs.Header.{the_version, magic, state_of, kind_of, is_allowed, has_zeros, number_at, index_of, head_with, head_in, body_in, head_of_copy, current_copy, head_of}
 
 abbrev Read : Result Head Unreadable → Type 0
 Read r = (h : Head) → r ≡ Ok h → is_allowed h ≡ true

@@ -1,14 +1,14 @@
 -- A command moves the ledger of a book as the ledger's definition says.
 use Rattle.std.proofs.Common.{◌≡◌, ◌⊎◌, inl, inr, ⊎_elim, ℕ, zero, suc, ◌+◌, ◌-◌, ◌*◌, Bool, true, false, cond, ◌==◌, List, [], ◌∷◌, ◌++◌, length, map, Option, Some, None, Result, Ok, Err, refl, sym, ap, ◌∙◌, subst, arith}
-use Rattle.std.specs.Prelude.{bytes_eq, filter_map, option_map, option_and_then}
-use Rattle.std.specs.List.{cons_option, list_any}
+use Rattle.std.specs.Prelude.{filter_map, option_map, option_and_then}
+use Rattle.std.specs.List.{cons_option}
 use Rattle.std.proofs.lemmas.Bool.{cases_Bool, both_ways, eqb-true, eq-eqb}
 use Rattle.std.proofs.lemmas.List.{length-append}
 use Rattle.space_model.specs.Least.{log2}
 use Rattle.space_model.specs.Sizes.{head_size}
-use Rattle.space_model.specs.Runs.{Run, run, place, front_of_smallest}
+use Rattle.space_model.specs.Runs.{Run, run}
 use Rattle.space_model.specs.Apart.{In, Pairs, SameMembers}
-use Rattle.space_model.specs.Ledger.{exponent, Standing, Packed as Payload, Pending as LedgerPending, Ledger, Placed, or_grown, place_growing, with_pending, packed_of, packed_run}
+use Rattle.space_model.specs.Ledger.{exponent, Standing, Packed as Payload, Ledger, Placed, or_grown, place_growing, with_pending, packed_of, packed_run}
 use Rattle.space_model.specs.Ledger.{held as ledger_held, kept_run, pending_at, served_at as ledger_served_at, served_with as ledger_served_with, served as ledger_served}
 use Rattle.space_model.specs.Ledger.{serve as ledger_serve, serve_all as ledger_serve_all, after_served as ledger_after_served, or_before as ledger_or_before, after_command}
 use Rattle.file_model.specs.declared.block.Packed.{Packed}
@@ -20,11 +20,11 @@ use Rattle.write_cache.specs.declared.pending.Pending.{Pending}
 use Rattle.write_cache.specs.PendingState.{payload_at, in_ledger}
 use Rattle.write_cache.specs.Waiting.{Waiting, state_of, with_state, ledger_of as pending_of}
 use Rattle.book_model.specs.declared.change.Change.{Change}
-use Rattle.book_model.specs.Book.{held, Book, entry_run, entry_runs, new_entry, pending_entry, pending_entries, olds_of, IsWellFormed}
-use Rattle.book_model.specs.Planning.{IsBlockFor, IsStanding, IsChange, AreChanges, OtherKey, OtherEntry, emptied, released, grown, moved, kept_in, kept_unit, served_at, served_with, served, serve}
+use Rattle.book_model.specs.Book.{held, Book, entry_run, entry_runs, new_entry, pending_entries, olds_of, IsWellFormed}
+use Rattle.book_model.specs.Planning.{IsBlockFor, IsStanding, IsChange, AreChanges, OtherKey, OtherEntry, emptied, moved, kept_in, kept_unit, served_at, served_with, served, serve}
 use Rattle.book_model.specs.Planning.{after_served, serve_all, or_before, planned}
 use Rattle.book_model.specs.LedgerOf.{filed_entries, AreStanding, ledger_of, touch_of, touches_of, ledger_result}
-use Rattle.book_model.proofs.Members.{append_in, in_append, map_in, in_map, same_back, same_map, same_through, same_append, any_passes, passes_any}
+use Rattle.book_model.proofs.Members.{append_in, in_append, map_in, in_map, same_map, same_through, any_passes, passes_any}
 use Rattle.book_model.proofs.Waits.{put_again}
 use Rattle.book_model.proofs.Runs.{same_unit}
 use Rattle.book_model.proofs.Released.{entry_taken}

@@ -1,6 +1,6 @@
 -- After a flush each key that waited has its new objects.
-use Rattle.std.proofs.Common.{◌≡◌, ◌<◌, ◌⊎◌, inl, inr, ⊎_elim, ℕ, ◌+◌, Bool, true, false, List, [], ◌∷◌, Option, Some, None, Ok, refl, sym, ap, ◌∙◌, subst, arith}
-use Rattle.std.specs.Prelude.{bytes_eq, option_map}
+use Rattle.std.proofs.Common.{◌≡◌, ⊎_elim, ℕ, true, List, [], Some, None, Ok, sym, ap, ◌∙◌, subst, arith}
+use Rattle.std.specs.Prelude.{option_map}
 use Rattle.std.specs.List.{list_any}
 use Rattle.std.proofs.lemmas.Bool.{cases_Bool, both_ways, false_from_ne_true}
 use Rattle.term_model.specs.TermValue.{TermValue}
@@ -18,8 +18,7 @@ use Rattle.file_model.specs.View.{Units, view_of, units_in}
 use Rattle.file_model.specs.Taken.{taken, entry_of}
 use Rattle.file_model.specs.Gates.{StandsOpen, is_among}
 use Rattle.file_model.specs.BodyWrites.{Body, IsPacked}
-use Rattle.file_model.specs.Flush.{IsFlushable, IsFlushed, without_olds, flushed, table_in}
-use Rattle.write_cache.specs.declared.pending.Pending.{Pending}
+use Rattle.file_model.specs.Flush.{IsFlushed, without_olds, flushed, table_in}
 use Rattle.write_cache.specs.Waiting.{state_of}
 use Rattle.book_model.specs.Book.{Book, olds_of}
 use Rattle.book_model.specs.Planning.{IsBlockFor}
@@ -27,7 +26,7 @@ use Rattle.book_model.specs.OfFile.{IsOf}
 use Rattle.book_model.specs.Flushing.{body_of, bodies_of, old_units, HaveNew}
 use Rattle.book_model.specs.Below.{BlockLaws, FlushLaws, WriteLaws}
 use Rattle.book_model.proofs.Members.{filter_map_in, in_filter_map, any_passes, passes_any}
-use Rattle.book_model.proofs.Waits.{Touched, same_key, other_key, one_of_key, none_in, key_self}
+use Rattle.book_model.proofs.Waits.{Touched, other_key, one_of_key, none_in}
 use Rattle.book_model.proofs.Blocks.{of_all, all_of, taken_stands, stands_taken}
 use Rattle.book_model.proofs.Flushable.{body_from, unit_from, unit_among, its_run, one_block, for_key, block, its_packed, read, flushable}
 
@@ -57,10 +56,13 @@ module _ (blocks : BlockLaws) (known : FlushLaws) (laws : WriteLaws) (file : Lis
       let w = body_from b.cache x a in
       let own : IsPacked n h x (block blocks known file b of grown w.touched w.packed w.there w.has) =
       subst (λ y. IsPacked n h y (block blocks known file b of grown w.touched w.packed w.there w.has)) w.is
-      (its_packed blocks known file b of grown w.touched w.packed w.there w.has) in
-      (w.touched, w.there, (λ none. let has = w.has in absurd (cc (none, has))),
-      ap (λ (y : Block). spelled y.key) (one_block blocks known file b of grown x t (block blocks known file b of grown w.touched w.packed w.there w.has) packed own)
-      ∙ (for_key blocks known file b of grown w.touched w.packed w.there w.has).spelled_is)
+      (its_packed blocks known file b of grown w.touched w.packed w.there w.has) in (
+        w.touched,
+        w.there,
+        (λ none. let has = w.has in absurd (cc (none, has))),
+        ap (λ (y : Block). spelled y.key) (one_block blocks known file b of grown x t (block blocks known file b of grown w.touched w.packed w.there w.has) packed own)
+            ∙ (for_key blocks known file b of grown w.touched w.packed w.there w.has).spelled_is,
+      )
 
   comes : (e : Touched) (p : Packed) → In e b.cache → e.1.block ≡ Some p → (f : IsBlockFor h e.0 p)
       → objects_of (flushed n h bodies (old_units b.cache) file) f.term ≡ f.objects

@@ -1,35 +1,35 @@
 -- A book that is that of a file: what follows, and how it stays one.
-use Rattle.std.proofs.Common.{Option, ◌≡◌, ◌≤◌, ◌<◌, ◌⊎◌, inl, inr, ⊎_elim, ℕ, ◌+◌, ◌*◌, ◌^◌, Bool, true, false, ◌&&◌, ◌||◌, nat_le, nat_lt, List, [], ◌∷◌, map, Some, None, Ok, refl, sym, ap, ◌∙◌, subst, arith}
+use Rattle.std.proofs.Common.{Option, ◌≡◌, ◌≤◌, ◌<◌, ◌⊎◌, inl, inr, ⊎_elim, ℕ, ◌+◌, ◌*◌, ◌^◌, true, false, nat_le, nat_lt, List, [], ◌∷◌, map, Some, Ok, refl, sym, ap, ◌∙◌, subst, arith}
 use Rattle.std.specs.Prelude.{not}
 use Rattle.std.specs.List.{list_any}
 use Rattle.std.proofs.lemmas.Nat.{pow_pos}
-use Rattle.std.proofs.lemmas.Bool.{and_parts, or_parts, or_cases, leb-true, leb-false, not-true, not-false, false_from_ne_true, and_cases, ltb-false}
-use Rattle.space_model.specs.Runs.{Run, run, end_of, meets, is_free}
+use Rattle.std.proofs.lemmas.Bool.{and_parts, or_parts, not-true, and_cases, ltb-false}
+use Rattle.space_model.specs.Runs.{Run, end_of, meets, is_free}
 use Rattle.space_model.specs.Apart.{In, Pairs, SameMembers, Apart}
 use Rattle.space_model.specs.Ledger.{Standing}
 use Rattle.file_model.specs.declared.block.Packed.{Packed}
 use Rattle.file_model.specs.declared.entry.Entry.{Entry}
 use Rattle.file_model.specs.declared.head.Head.{Head}
 use Rattle.file_model.specs.declared.head.Located.{Located}
-use Rattle.file_model.specs.Header.{units_per_segment, located, segments_of}
+use Rattle.file_model.specs.Header.{units_per_segment}
 use Rattle.file_model.specs.Block.{Block, one_key}
-use Rattle.file_model.specs.View.{OpenUnit, View, view, view_of, units_of}
+use Rattle.file_model.specs.View.{View, view_of, units_of}
 use Rattle.file_model.specs.Taken.{taken, rejects_above, taken_above, entry_of, entries}
 use Rattle.file_model.specs.Fit.{has_segments, has_no_rejects, are_none}
 use Rattle.file_model.specs.Free.{IsFreeIn}
 use Rattle.write_cache.specs.declared.pending.Pending.{Pending}
 use Rattle.write_cache.specs.Waiting.{Waiting}
 use Rattle.book_model.specs.declared.change.Change.{Change}
-use Rattle.book_model.specs.Book.{Space, held, IsParted, Book, entry_run, entry_runs, pending_entries, olds_of, OtherUnit, MeetsNot, IsInOrder, IsWellFormed, IsAlike}
-use Rattle.book_model.specs.Planning.{IsStanding, IsBlockFor, AreChanges, planned}
+use Rattle.book_model.specs.Book.{held, IsParted, Book, entry_run, entry_runs, pending_entries, olds_of, OtherUnit, MeetsNot, IsInOrder, IsWellFormed, IsAlike}
+use Rattle.book_model.specs.Planning.{IsBlockFor, planned}
 use Rattle.book_model.specs.LedgerOf.{filed_entries, AreStanding}
-use Rattle.book_model.specs.OfFile.{HasBlock, IsOld, Knows, IsOf, IsPendingRun, Follows, AreChangesOf, ShowsSame, MayBeOf, placed_at, IsOpened, standing_block, standing_of}
+use Rattle.book_model.specs.OfFile.{IsOld, Knows, IsOf, Follows, AreChangesOf, ShowsSame, MayBeOf, placed_at, standing_block, standing_of}
 use Rattle.book_model.specs.Below.{PlaceLaws, BlockLaws}
-use Rattle.book_model.proofs.Members.{append_in, in_append, map_in, in_map, pairs_also, same_back, same_through, same_self, same_map}
+use Rattle.book_model.proofs.Members.{append_in, map_in, pairs_also, same_back, same_through, same_map}
 use Rattle.book_model.proofs.Runs.{swapped, not_apart, entries_pair}
 use Rattle.book_model.proofs.Released.{entry_taken}
 use Rattle.book_model.proofs.Filed.{filed_from}
-use Rattle.book_model.proofs.Knowing.{Both, planned_both}
+use Rattle.book_model.proofs.Knowing.{planned_both}
 use Rattle.book_model.proofs.Commands.{planned_place}
 use Rattle.book_model.proofs.Alike.{alike_filed, alike_formed}
 use Rattle.book_model.proofs.Blocks.{all_of, unit_taken}

@@ -1,24 +1,22 @@
 -- A book that was just opened is that of its file.
-use Rattle.std.proofs.Common.{◌≡◌, ◌≤◌, ◌<◌, ◌⊎◌, inl, inr, ⊎_elim, ℕ, ◌+◌, ◌*◌, ◌^◌, ◌==◌, ◌&&◌, nat_le, Bool, true, List, [], ◌∷◌, map, Option, Some, None, Ok, refl, sym, ap, ◌∙◌, subst, arith}
+use Rattle.std.proofs.Common.{◌≡◌, ◌≤◌, inl, ⊎_elim, ℕ, ◌==◌, nat_le, true, List, [], sym, ap, ◌∙◌, subst, arith}
 use Rattle.std.specs.List.{IsDistinct}
 use Rattle.std.proofs.lemmas.Bool.{and_parts, leb-true}
-use Rattle.space_model.specs.Apart.{In, Pairs, SameMembers}
-use Rattle.file_model.specs.declared.block.Packed.{Packed}
+use Rattle.space_model.specs.Apart.{In, Pairs}
 use Rattle.file_model.specs.declared.entry.Entry.{Entry}
 use Rattle.file_model.specs.declared.head.Head.{Head}
-use Rattle.file_model.specs.Header.{the_version, most_segments, units_per_segment, may_name, is_allowed}
-use Rattle.file_model.specs.Block.{Block}
-use Rattle.file_model.specs.View.{Units, View, view, view_of, units_of}
+use Rattle.file_model.specs.Header.{the_version, most_segments, units_per_segment, is_allowed}
+use Rattle.file_model.specs.View.{Units, view, view_of, units_of}
 use Rattle.file_model.specs.Taken.{taken, entry_of, entries}
 use Rattle.file_model.specs.Fit.{has_segments, has_no_rejects}
 use Rattle.file_model.specs.Gates.{AreRead}
 use Rattle.write_cache.specs.declared.pending.Pending.{Pending}
 use Rattle.write_cache.specs.Waiting.{Waiting, HasDistinctKeys}
-use Rattle.book_model.specs.Book.{IsParted, Book, entry_run, entry_runs, pending_entries, olds_of, OtherUnit, MeetsNot, IsInOrder, IsWellFormed}
-use Rattle.book_model.specs.LedgerOf.{filed_entries}
-use Rattle.book_model.specs.OfFile.{IsOld, Knows, IsOf, IsOpened}
+use Rattle.book_model.specs.Book.{IsParted, Book, entry_runs, pending_entries, olds_of, OtherUnit, MeetsNot, IsInOrder}
+use Rattle.book_model.specs.OfFile.{IsOf, IsOpened}
 use Rattle.book_model.specs.Below.{BlockLaws}
 use Rattle.book_model.proofs.Members.{pairs_also, pairs_map}
+use Rattle.book_model.proofs.Runs.{entries_pair}
 use Rattle.book_model.proofs.Filed.{filed_from, filed_in}
 use Rattle.book_model.proofs.Blocks.{Lower, taken_lower, taken_stands}
 use Rattle.book_model.proofs.Headers.{allowed_of}
@@ -73,8 +71,11 @@ module _ (laws : BlockLaws) (file : List ℕ) (b : Book) (opened : IsOpened file
         header = allowed;
         at_least = omega arith;
         at_most = omega arith;
-        entries = subst (λ es. Pairs MeetsNot es) (sym opened.directory)
-            (taken_apart laws h (units_of h file) (laws.read (units_per_segment h) h file) none);
+        entries = pairs_also OtherUnit MeetsNot b.directory (λ e f x y other. ⊎_elim
+            (λ one. absurd (other (ap (λ (z : Entry). z.unit) one)))
+            (λ apart. apart)
+            (entries_pair (entries (view_of h file)) e f (taken_apart laws h (units_of h file) (laws.read (units_per_segment h) h file) none)
+            (opened.directory.there e x) (opened.directory.there f y))) opened.units;
         taken = opened.taken;
         units = subst (λ (w : Waiting). Pairs OtherUnit (pending_entries w)) (sym opened.cache) tt;
         listed = λ e a. absurd (no_pending e a);
@@ -92,9 +93,9 @@ module _ (laws : BlockLaws) (file : List ℕ) (b : Book) (opened : IsOpened file
     knows = record {
       gates = none;
       lists = record {
-        there = λ e a. subst (λ es. In e es) opened.directory (⊎_elim (λ s. s.there) (λ o. absurd (no_olds e o)) (filed_from b e a));
+        there = λ e a. opened.directory.there e (⊎_elim (λ s. s.there) (λ o. absurd (no_olds e o)) (filed_from b e a));
         back = λ e a. filed_in b e (inl (record {
-          there = subst (λ es. In e es) (sym opened.directory) a;
+          there = opened.directory.back e a;
           not_pending = λ f there same. no_pending f there;
         }));
       };

@@ -1,19 +1,17 @@
 -- A touched key gives up its block.
-use Rattle.std.proofs.Common.{◌≡◌, ◌⊎◌, inl, inr, ⊎_elim, ℕ, ◌*◌, true, false, List, [], ◌∷◌, ◌++◌, Option, Some, None, refl, sym, ap, ◌∙◌, subst}
-use Rattle.std.specs.Prelude.{bytes_eq}
+use Rattle.std.proofs.Common.{◌≡◌, ◌⊎◌, inl, inr, ⊎_elim, ℕ, List, [], ◌∷◌, Option, Some, None, refl, sym, ap, ◌∙◌, subst}
 use Rattle.term_model.specs.Hash.{hash_of}
-use Rattle.space_model.specs.Least.{log2}
 use Rattle.space_model.specs.Runs.{Run}
-use Rattle.space_model.specs.Apart.{In, Pairs, SameMembers, Apart, IsRun}
+use Rattle.space_model.specs.Apart.{In, Pairs, SameMembers, Apart}
 use Rattle.file_model.specs.declared.entry.Entry.{Entry}
 use Rattle.write_cache.specs.declared.pending.Pending.{Pending}
 use Rattle.write_cache.specs.Waiting.{Waiting, state_of, with_state, HasDistinctKeys}
 use Rattle.book_model.specs.declared.change.Change.{Change}
-use Rattle.book_model.specs.Book.{Space, held, IsParted, Book, entry_run, entry_runs, pending_entry, pending_entries, olds_of, OtherUnit, IsInOrder, IsWellFormed}
-use Rattle.book_model.specs.Planning.{IsChange, without_run, without_entry, with_deferred, stands_for, emptied, released_as, released}
-use Rattle.book_model.proofs.Members.{append_in, in_append, map_in, in_map, filter_map_in, Through, filter_map_pairs, pairs_append, same_self, same_map, same_through, two_of}
-use Rattle.book_model.proofs.Waits.{Touched, other_key, found_in, none_in, flips, in_put}
-use Rattle.book_model.proofs.Told.{OfOther, told, told_same, told_pairs, from_put, put_told, other_stays, other_told, from_told}
+use Rattle.book_model.specs.Book.{held, IsParted, Book, entry_run, entry_runs, pending_entry, olds_of, OtherUnit, IsInOrder, IsWellFormed}
+use Rattle.book_model.specs.Planning.{IsChange, without_run, with_deferred, stands_for, emptied, released}
+use Rattle.book_model.proofs.Members.{append_in, in_append, map_in, in_map, filter_map_in, Through, filter_map_pairs, pairs_append, same_map, same_through, two_of}
+use Rattle.book_model.proofs.Waits.{Touched, other_key, found_in, in_put}
+use Rattle.book_model.proofs.Told.{OfOther, told_same, told_pairs, from_put, put_told, other_stays, other_told, from_told}
 use Rattle.book_model.proofs.Runs.{swapped, runs_pair, run_was, run_left, runs_apart, entry_stays, entries_apart, taken_without}
 
 pub entry_taken : (b : Book) → IsInOrder b → (e : Entry) → In e b.directory → In (entry_run e) b.space.taken

@@ -1,8 +1,7 @@
 -- What serving one touched key leaves: the key without a block, or with one in a free run.
-use Rattle.std.proofs.Common.{◌≡◌, ◌≤◌, ◌⊎◌, inl, inr, ⊎_elim, ℕ, ◌+◌, ◌-◌, ◌*◌, Bool, true, false, cond, ◌==◌, List, Option, Some, None, Result, Ok, Err, refl, sym, ap, ◌∙◌, subst, arith}
+use Rattle.std.proofs.Common.{◌≡◌, ◌≤◌, ◌⊎◌, inl, inr, ⊎_elim, ℕ, ◌+◌, ◌-◌, ◌*◌, Bool, true, false, cond, ◌==◌, Option, Some, None, Result, Ok, Err, refl, sym, ap, ◌∙◌, subst, arith}
 use Rattle.std.proofs.lemmas.Nat.{mul-le}
 use Rattle.std.proofs.lemmas.Bool.{eqb-true}
-use Rattle.term_model.specs.Hash.{hash_of}
 use Rattle.space_model.specs.Least.{log2}
 use Rattle.space_model.specs.Runs.{Run, run, place}
 use Rattle.space_model.specs.Apart.{In, Apart, IsRun}
@@ -12,12 +11,12 @@ use Rattle.file_model.specs.declared.entry.Entry.{Entry}
 use Rattle.write_cache.specs.declared.pending.Pending.{Pending}
 use Rattle.write_cache.specs.Waiting.{state_of}
 use Rattle.book_model.specs.declared.change.Change.{Change}
-use Rattle.book_model.specs.Book.{held, IsParted, Book, entry_run, pending_entry, IsInOrder, IsWellFormed}
+use Rattle.book_model.specs.Book.{held, Book, entry_run, pending_entry, IsWellFormed}
 use Rattle.book_model.specs.Planning.{IsChange, without_run, with_deferred, emptied, released, grown, moved, kept_in, kept_unit, served_at, served_with, served, IsFull, serve}
 use Rattle.book_model.proofs.Members.{in_append}
 use Rattle.book_model.proofs.Waits.{put_in}
 use Rattle.book_model.proofs.Runs.{swapped, runs_pair, run_was, run_left}
-use Rattle.book_model.proofs.Released.{Leaves, leaves, entry_taken, released_formed, released_held}
+use Rattle.book_model.proofs.Released.{leaves, entry_taken, released_formed, released_held}
 use Rattle.book_model.proofs.Given.{CanGive, given_formed}
 use Rattle.book_model.specs.Below.{PlaceLaws}
 
@@ -204,10 +203,12 @@ module _ (laws : PlaceLaws) (n : ℕ) (b : Book) (c : Change) (formed : IsWellFo
   full_at p exp None found is =
       let same : p.exp ≡ exp = cc is in
       let most = formed.order.at_most in
-      let all : b.space.segments + (b.place.head.max_segments - b.space.segments) ≡ b.place.head.max_segments = omega arith in
-      (same, subst (λ e. place n b.place.head.max_segments (held b.space) e ≡ None) same
-      (subst (λ (s : ℕ). place n s (held b.space) p.exp ≡ None) all
-      (laws.none n (held b.space) p.exp b.space.segments (b.place.head.max_segments - b.space.segments) found)))
+      let all : b.space.segments + (b.place.head.max_segments - b.space.segments) ≡ b.place.head.max_segments = omega arith in (
+        same,
+        subst (λ e. place n b.place.head.max_segments (held b.space) e ≡ None) same
+            (subst (λ (s : ℕ). place n s (held b.space) p.exp ≡ None) all
+            (laws.none n (held b.space) p.exp b.space.segments (b.place.head.max_segments - b.space.segments) found)),
+      )
 
   full_with : (p : Packed) (exp : ℕ) (o : Option ℕ) → served_with n b c p o ≡ Err exp
       → (p.exp ≡ exp) × (place n b.place.head.max_segments (held b.space) exp ≡ None)

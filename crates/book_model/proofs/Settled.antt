@@ -1,29 +1,25 @@
 -- The book after a flush is that of the file as it is then.
-use Rattle.std.proofs.Common.{◌≡◌, ◌≤◌, ◌<◌, ◌⊎◌, inl, inr, ⊎_elim, ℕ, ◌+◌, ◌*◌, ◌^◌, ◌==◌, ◌&&◌, ◌||◌, Bool, true, false, List, [], ◌∷◌, length, map, Option, Some, None, Ok, refl, sym, ap, ◌∙◌, subst, arith}
+use Rattle.std.proofs.Common.{◌≡◌, ◌<◌, ◌⊎◌, inl, inr, ⊎_elim, ℕ, ◌==◌, true, false, List, Option, Some, None, Ok, refl, sym, ap, ◌∙◌, subst, arith}
 use Rattle.std.specs.Prelude.{not, option_map}
-use Rattle.std.specs.List.{IsDistinct, list_any}
 use Rattle.std.proofs.lemmas.Nat.{pow_pos}
-use Rattle.std.proofs.lemmas.Bool.{leb-true, cases_Bool, cases_order, both_ways, or_cases, or_left, or_right, and_parts, and_from, not-true, not_from_false, false_from_ne_true, le-leb, eqb-true, eq-eqb}
+use Rattle.std.proofs.lemmas.Bool.{leb-true, cases_Bool, both_ways, or_cases, or_left, or_right, and_parts, and_from, not-true, not_from_false, false_from_ne_true, le-leb, eqb-true, eq-eqb}
 use Rattle.term_model.specs.Hash.{hash_of}
 use Rattle.etf_model.specs.Canonical.{spelled}
-use Rattle.space_model.specs.Apart.{In, Pairs}
+use Rattle.space_model.specs.Apart.{In}
 use Rattle.file_model.specs.declared.block.Packed.{Packed}
 use Rattle.file_model.specs.declared.entry.Entry.{Entry}
 use Rattle.file_model.specs.declared.head.Head.{Head}
-use Rattle.file_model.specs.declared.head.Located.{Located}
 use Rattle.file_model.specs.Layout.{whole_segments}
-use Rattle.file_model.specs.Header.{units_per_segment, located}
+use Rattle.file_model.specs.Header.{units_per_segment}
 use Rattle.file_model.specs.Block.{Block}
-use Rattle.file_model.specs.View.{Units, View, view, view_of, units_in}
+use Rattle.file_model.specs.View.{Units, view_of, units_in}
 use Rattle.file_model.specs.Taken.{taken, key_hash, entry_of, entries}
 use Rattle.file_model.specs.Fit.{has_segments, has_no_rejects}
-use Rattle.file_model.specs.Gates.{AreRead, StandsOpen, NoneMeet, NoneShareKeys, HaveBlocks, OpenAtTaken, is_among, opened, closed}
+use Rattle.file_model.specs.Gates.{AreRead, StandsOpen, NoneMeet, NoneShareKeys, HaveBlocks, is_among, opened}
 use Rattle.file_model.specs.BodyWrites.{Body}
 use Rattle.file_model.specs.Flush.{IsFlushable, news, without_olds}
-use Rattle.write_cache.specs.Waiting.{Waiting, HasDistinctKeys}
-use Rattle.book_model.specs.Book.{Space, IsParted, Book, entry_run, entry_runs, new_entry, pending_entry, pending_entries, olds_of, MeetsNot, IsInOrder, IsWellFormed}
-use Rattle.book_model.specs.Planning.{IsStanding, IsBlockFor}
-use Rattle.book_model.specs.LedgerOf.{filed_entries}
+use Rattle.book_model.specs.Book.{Book, entry_run, new_entry, pending_entry, pending_entries, olds_of, IsInOrder}
+use Rattle.book_model.specs.Planning.{IsStanding}
 use Rattle.book_model.specs.OfFile.{IsOf}
 use Rattle.book_model.specs.Flushing.{body_of, bodies_of, old_units, settled}
 use Rattle.book_model.specs.Below.{BlockLaws, FlushLaws, WriteLaws}

@@ -1,5 +1,5 @@
 -- What the states of waiting keys tell, where one key gets another state.
-use Rattle.std.proofs.Common.{◌≡◌, ◌⊎◌, inl, inr, ⊎_elim, ℕ, true, false, List, Option, Some, None, refl, sym, ap, ◌∙◌, subst}
+use Rattle.std.proofs.Common.{◌≡◌, ◌⊎◌, inl, inr, ⊎_elim, ℕ, false, List, Option, Some, sym, ap, ◌∙◌}
 use Rattle.std.specs.Prelude.{bytes_eq, filter_map}
 use Rattle.std.proofs.lemmas.Bool.{cases_Bool}
 use Rattle.space_model.specs.Apart.{In, Pairs, SameMembers}
@@ -75,6 +75,6 @@ pub told_pairs : {Y : Type 0} (f : Pending → Option Y) (R : Y → Y → Type 0
 told_pairs f R w key s distinct old own = pairs_filter_map (λ (e : Touched). f e.1) R (with_state w key s)
     (put_pairs (Through (λ (e : Touched). f e.1) R) w key s distinct (filter_map_pairs (λ (e : Touched). f e.1) R w old)
     (λ x a other. (
-    λ u v first second. (own u v (record { touched = x; there = a; other = other; is = first }) second).0,
-    λ u v first second. (own v u (record { touched = x; there = a; other = other; is = second }) first).1,
+      λ u v first second. (own u v (record { touched = x; there = a; other = other; is = first }) second).0,
+      λ u v first second. (own v u (record { touched = x; there = a; other = other; is = second }) first).1,
     )))

@@ -1,24 +1,24 @@
 -- What the writes of a flush leave, seen by the units of the file.
-use Rattle.std.proofs.Common.{◌≡◌, ◌≤◌, ◌<◌, inl, inr, ⊎_elim, ℕ, ◌+◌, ◌*◌, ◌^◌, Bool, true, ◌==◌, ◌&&◌, ◌||◌, List, [], ◌∷◌, length, Ok, refl, sym, ap, ◌∙◌, subst, arith}
+use Rattle.std.proofs.Common.{◌≡◌, ◌≤◌, ◌<◌, inl, inr, ⊎_elim, ℕ, true, ◌==◌, ◌&&◌, ◌||◌, List, [], ◌∷◌, length, Ok, refl, sym, ap, ◌∙◌, subst, arith}
 use Rattle.std.specs.Prelude.{not}
 use Rattle.std.specs.List.{AllByRecursion}
 use Rattle.std.proofs.lemmas.Bool.{or_left, or_right, or_cases, eq-eqb, eqb-true}
-use Rattle.host_model.specs.Disk.{written_at, DiffersIn}
+use Rattle.host_model.specs.Disk.{DiffersIn}
 use Rattle.host_model.specs.Torn.{length-written_at}
-use Rattle.host_model.specs.Writes.{Write, end_of, ranges_of, with_write, with_writes, BeginInside, LieInside}
+use Rattle.host_model.specs.Writes.{Write, ranges_of, with_write, BeginInside, LieInside}
 use Rattle.host_model.specs.WritesLaws.{DiffersIn-writes, length_kept}
 use Rattle.space_model.specs.Apart.{In}
 use Rattle.file_model.specs.declared.head.Head.{Head}
-use Rattle.file_model.specs.Layout.{page_size, unit_at, segment_end, open_byte, closed_byte, gate_at, is_open_at}
+use Rattle.file_model.specs.Layout.{segment_end, open_byte, closed_byte}
 use Rattle.file_model.specs.LayoutLaws.{in_segment, segment_ends, unit_whole}
 use Rattle.file_model.specs.Header.{located, segments_in}
 use Rattle.file_model.specs.Block.{Block}
-use Rattle.file_model.specs.View.{Units, view, units_in}
+use Rattle.file_model.specs.View.{Units, units_in}
 use Rattle.file_model.specs.Gates.{is_among, opened, closed}
 use Rattle.file_model.specs.Images.{ImagesAgree}
 use Rattle.file_model.specs.GateWrites.{gate_writes, AreWhole, OnlyGatesDiffer}
 use Rattle.file_model.specs.BodyWrites.{Body, body_writes, HasRoom, IsPacked, StandsPacked}
-use Rattle.file_model.specs.Flush.{IsFlushable, IsNew, news, with_bodies, with_news, without_olds}
+use Rattle.file_model.specs.Flush.{IsFlushable, news, with_bodies, with_news, without_olds}
 use Rattle.book_model.specs.Below.{WriteLaws}
 use Rattle.book_model.proofs.Blocks.{of_all, open_unit, unit_open}
 

@@ -1,6 +1,6 @@
 -- What is known of a table's file in memory, which is called its book: the header, the space, the directory, and the keys
 -- that wait for the next flush. And when a book is in order. This project's own.
-use Rattle.std.specs.Prelude.{◌≡◌, ◌≤◌, ℕ, ◌*◌, true, List, ◌++◌, map, filter_map, Option, Some, None, option_map, Result, Ok, Err}
+use Rattle.std.specs.Prelude.{◌≡◌, ◌≤◌, ℕ, ◌*◌, true, List, ◌++◌, map, filter_map, Option, option_map, Result, Ok, Err}
 use Rattle.term_model.specs.Hash.{hash_of}
 use Rattle.space_model.specs.Least.{log2}
 use Rattle.space_model.specs.Runs.{Run, run}

@@ -1,12 +1,11 @@
 -- When a book is that of a file. This project's own.
-use Rattle.std.specs.Prelude.{◌≡◌, ◌≤◌, ◌<◌, ℕ, ◌*◌, true, false, List, [], ◌∷◌, map, Option, Some, None, Ok}
+use Rattle.std.specs.Prelude.{◌≡◌, ◌≤◌, ◌<◌, ℕ, ◌*◌, true, false, List, [], map, Option, Some, None, Ok}
 use Rattle.etf_model.specs.Canonical.{spelled}
 use Rattle.space_model.specs.Runs.{Run, is_free}
 use Rattle.space_model.specs.Apart.{In, Pairs, SameMembers}
 use Rattle.space_model.specs.Ledger.{Standing}
 use Rattle.file_model.specs.declared.block.Packed.{Packed}
 use Rattle.file_model.specs.declared.entry.Entry.{Entry}
-use Rattle.file_model.specs.declared.head.Head.{Head}
 use Rattle.file_model.specs.declared.head.Located.{Located}
 use Rattle.file_model.specs.Header.{units_per_segment, is_allowed, located, segments_of}
 use Rattle.file_model.specs.Block.{Block}
@@ -15,9 +14,9 @@ use Rattle.file_model.specs.Taken.{taken, entry_of, entries}
 use Rattle.file_model.specs.Fit.{has_segments, has_no_rejects}
 use Rattle.file_model.specs.Free.{IsFreeIn}
 use Rattle.write_cache.specs.declared.pending.Pending.{Pending}
-use Rattle.write_cache.specs.Waiting.{Waiting, state_of}
+use Rattle.write_cache.specs.Waiting.{state_of}
 use Rattle.book_model.specs.declared.change.Change.{Change}
-use Rattle.book_model.specs.Book.{Space, held, Book, entry_run, entry_runs, MeetsNot, pending_entries, olds_of, IsWellFormed}
+use Rattle.book_model.specs.Book.{held, Book, entry_run, entry_runs, OtherUnit, MeetsNot, pending_entries, olds_of, IsWellFormed}
 use Rattle.book_model.specs.Planning.{IsBlockFor, AreChanges}
 use Rattle.book_model.specs.LedgerOf.{filed_entries}
 
@@ -115,7 +114,8 @@ pub record IsOpened (file : List ℕ) (b : Book) : Type 0 where
   pub segments : b.space.segments ≡ b.place.head.segments
   pub taken : SameMembers b.space.taken (entry_runs b.directory)
   pub deferred : b.space.deferred ≡ []
-  pub directory : b.directory ≡ entries (view_of b.place.head file)
+  pub directory : SameMembers b.directory (entries (view_of b.place.head file))
+  pub units : Pairs OtherUnit b.directory
   pub cache : b.cache ≡ []
 
 -- the keys of a file with their blocks, as the ledger has them

@@ -1,5 +1,5 @@
 -- What the touched keys of a command do to a book, before anything is written. This project's own.
-use Rattle.std.specs.Prelude.{◌≡◌, ℕ, ◌-◌, true, false, cond, not, ◌==◌, List, [], ◌∷◌, ◌++◌, length, filter, bytes_eq, Option, Some, None, Result, Ok, Err}
+use Rattle.std.specs.Prelude.{◌≡◌, ℕ, ◌-◌, false, cond, not, ◌==◌, List, [], ◌∷◌, ◌++◌, length, filter, bytes_eq, Option, Some, None, Result, Ok, Err}
 use Rattle.term_model.specs.TermValue.{TermValue}
 use Rattle.term_model.specs.Hash.{hash_of}
 use Rattle.etf_model.specs.Canonical.{spelled}
@@ -13,9 +13,9 @@ use Rattle.file_model.specs.Header.{units_per_segment}
 use Rattle.file_model.specs.Block.{one_key}
 use Rattle.file_model.specs.Packing.{payload_of, MayPack, IsBlockOf}
 use Rattle.write_cache.specs.declared.pending.Pending.{Pending}
-use Rattle.write_cache.specs.Waiting.{Waiting, state_of, with_state}
+use Rattle.write_cache.specs.Waiting.{state_of, with_state}
 use Rattle.book_model.specs.declared.change.Change.{Change}
-use Rattle.book_model.specs.Book.{Space, held, Book, entry_run, new_entry, pending_entry, pending_entries}
+use Rattle.book_model.specs.Book.{held, Book, entry_run, new_entry, pending_entry, pending_entries}
 
 -- ---- what is known of the changes of a command
 

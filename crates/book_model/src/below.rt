@@ -3,12 +3,19 @@ ghost use Rattle.book_model.specs.Below.{PlaceLaws, LedgerLaws, BlockLaws, Flush
 
 use file_model::flush_laws::after_a_flush_each_key_has_its_new_objects;
 use file_model::laws::{
-    a_block_stands_as_it_is_read, a_free_run_meets_no_block_and_has_no_open_gate, a_header_is_located_where_it_is_read, a_key_has_the_objects_of_its_one_block, gates_and_units_do_not_meet,
-    open_gates_stand_at_taken_units_alone_where_nothing_is_rejected, what_is_seen_depends_on_gates_and_on_what_stands_behind_open_ones,
+    a_block_stands_as_it_is_read, a_free_run_meets_no_block_and_has_no_open_gate,
+    a_header_is_located_where_it_is_read, a_key_has_the_objects_of_its_one_block,
+    gates_and_units_do_not_meet, open_gates_stand_at_taken_units_alone_where_nothing_is_rejected,
+    what_is_seen_depends_on_gates_and_on_what_stands_behind_open_ones,
 };
 use file_model::packing_laws::the_block_of_objects_stands;
-use file_model::write_laws::{torn_bodies_in_free_runs_are_not_seen, torn_gates_open_or_close_some, written_bodies_stand, written_gates_are_open_or_closed};
-use space_model::ledger_laws::{a_payload_has_room_in_the_least_block, segments_are_added_as_long_as_there_is_no_place};
+use file_model::write_laws::{
+    torn_bodies_in_free_runs_are_not_seen, torn_gates_open_or_close_some, written_bodies_stand,
+    written_gates_are_open_or_closed,
+};
+use space_model::ledger_laws::{
+    a_payload_has_room_in_the_least_block, segments_are_added_as_long_as_there_is_no_place,
+};
 use space_model::run_laws::{a_place_depends_on_the_held_runs_alone, a_place_is_a_free_run};
 use write_cache::laws::{a_key_keeps_its_place_and_has_its_last_state, the_ledger_goes_along};
 

@@ -11,3 +11,4 @@ pub mod file_laws;
 pub mod flush_laws;
 pub mod ledger_laws;
 pub mod order_laws;
+pub mod rows;
