@@ -10,7 +10,7 @@ use Rattle.feed_model.specs.Steady.{Steady}
 use Rattle.host_model.specs.Source.{Stream, after_read}
 use Rattle.host_model.specs.Host.{Shown}
 use Rattle.dets_tool.specs.declared.status.Status.{Status}
-use Rattle.dets_tool.specs.declared.status.Status.TheVariants.{Done, Input, WordsRefused, SourceFault, Output, Memory, NotYet}
+use Rattle.dets_tool.specs.declared.status.Status.TheVariants.{Done, Input, WordsRefused, Disk, SourceFault, Output, Memory, File, NotYet}
 use Rattle.dets_tool.specs.declared.status.InputWhy.TheVariants.{TooMuch, Text, Etf}
 use Rattle.dets_tool.specs.declared.input_feed.PullFault.{PullFault}
 use Rattle.dets_tool.specs.declared.input_feed.PullFault.TheVariants.{SourceFault as SourceFailed, TooMuch as PastBudget}
@@ -178,6 +178,8 @@ module _ {F S : Type 0} (m : Meaning F) (told : F → ℕ → Status) (service :
   refusal_ends Memory r = tt
   refusal_ends Done r = r
   refusal_ends WordsRefused r = r
+  refusal_ends Disk r = r
+  refusal_ends (File why) r = r
   refusal_ends SourceFault r = r
   refusal_ends Output r = absurd r
   refusal_ends (NotYet number) r = absurd r
@@ -190,6 +192,8 @@ module _ {F S : Type 0} (m : Meaning F) (told : F → ℕ → Status) (service :
       unserved Done t u = u
       unserved (Input offset why) t u = absurd u
       unserved WordsRefused t u = u
+      unserved Disk t u = u
+      unserved (File why) t u = u
       unserved SourceFault t u = u
       unserved Output t u = tt
       unserved Memory t u = tt
@@ -200,7 +204,7 @@ module _ {F S : Type 0} (m : Meaning F) (told : F → ℕ → Status) (service :
       by_stop _ (at_fault fault a o) = refusal_ends (told fault _) (others fault _)
       by_stop _ (at_memory o) = tt
 
-  -- so it is no fault of the source, and no refusal of words
+  -- so it is no fault of the source or the disk, and no refusal of words
   pub no_source_fault : ((fault : F) (fed : ℕ) → IsRefusal (told fault fed)) → (status : Status) (finished : Bool) (old : Standing S)
       (now : Option (List ℕ)) → Breaks m told service status finished old now → status ≡ SourceFault → ⊥
   no_source_fault others status finished old now b e = subst EndsService e (ends_service others status finished old now b)
@@ -208,6 +212,10 @@ module _ {F S : Type 0} (m : Meaning F) (told : F → ℕ → Status) (service :
   pub no_words : ((fault : F) (fed : ℕ) → IsRefusal (told fault fed)) → (status : Status) (finished : Bool) (old : Standing S)
       (now : Option (List ℕ)) → Breaks m told service status finished old now → status ≡ WordsRefused → ⊥
   no_words others status finished old now b e = subst EndsService e (ends_service others status finished old now b)
+
+  pub no_disk_fault : ((fault : F) (fed : ℕ) → IsRefusal (told fault fed)) → (status : Status) (finished : Bool) (old : Standing S)
+      (now : Option (List ℕ)) → Breaks m told service status finished old now → status ≡ Disk → ⊥
+  no_disk_fault others status finished old now b e = subst EndsService e (ends_service others status finished old now b)
 
 -- ---- the last terms, answered by a feed that was told that no more comes
 

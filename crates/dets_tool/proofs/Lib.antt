@@ -4,3 +4,4 @@ pub mod Runs
 pub mod InputRuns
 pub mod WholeInputs
 pub mod Jobs
+pub mod Checks

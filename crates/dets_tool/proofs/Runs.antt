@@ -12,7 +12,7 @@ use Rattle.run_model.specs.History.{answers}
 use Rattle.host_model.specs.Source.{Stream}
 use Rattle.host_model.specs.Host.{SaysFront}
 use Rattle.dets_tool.specs.declared.status.Status.{Status}
-use Rattle.dets_tool.specs.declared.status.Status.TheVariants.{Done, Input, WordsRefused, SourceFault, Output, Memory, NotYet}
+use Rattle.dets_tool.specs.declared.status.Status.TheVariants.{Done, Input, WordsRefused, Disk, SourceFault, Output, Memory, File, NotYet}
 use Rattle.dets_tool.specs.declared.status.InputWhy.TheVariants.{TooMuch, Text, Etf}
 use Rattle.dets_tool.specs.Service.{Service}
 use Rattle.dets_tool.specs.Status.{IsRefusal}
@@ -199,6 +199,8 @@ module _ {F S : Type 0} (m : Meaning F) (told : F → ℕ → Status) (service :
     ran_unserved Done finished bytes left input said now here s t n next u i = absurd u
     ran_unserved (Input offset why) finished bytes left input said now here s t n next u i = absurd u
     ran_unserved WordsRefused finished bytes left input said now here s t n next u i = absurd u
+    ran_unserved Disk finished bytes left input said now here s t n next u i = absurd u
+    ran_unserved (File why) finished bytes left input said now here s t n next u i = absurd u
     ran_unserved SourceFault finished bytes left input said now here s t n next u i = absurd u
     ran_unserved Output finished bytes left input said now here s t n next u i =
         let a = stream_from finished here.offset here.left t n next in
@@ -236,6 +238,8 @@ module _ {F S : Type 0} (m : Meaning F) (told : F → ℕ → Status) (service :
     refused Memory c fault e r none b = tt
     refused Done c fault e r none b = absurd r
     refused WordsRefused c fault e r none b = absurd r
+    refused Disk c fault e r none b = absurd r
+    refused (File why) c fault e r none b = absurd r
     refused SourceFault c fault e r none b = absurd r
     refused Output c fault e r none b = absurd r
     refused (NotYet number) c fault e r none b = absurd r

@@ -13,7 +13,7 @@ use Rattle.feed_model.specs.Steady.{Steady}
 use Rattle.run_model.specs.History.{answers}
 use Rattle.host_model.specs.Host.{Shown}
 use Rattle.dets_tool.specs.declared.status.Status.{Status}
-use Rattle.dets_tool.specs.declared.status.Status.TheVariants.{Done, Input, WordsRefused, SourceFault, Output, Memory, NotYet}
+use Rattle.dets_tool.specs.declared.status.Status.TheVariants.{Done, Input, WordsRefused, Disk, SourceFault, Output, Memory, File, NotYet}
 use Rattle.dets_tool.specs.Service.{Service}
 use Rattle.dets_tool.specs.Serving.{Standing, standing, Serves, Replies, IsUnserved, Stops, at_fault, at_memory, Breaks, IsWaiting, IsReady}
 
@@ -129,6 +129,8 @@ pub IsUnserved-left : {S : Type 0} (service : Service S) (status : Status) (here
 IsUnserved-left service Done here left offset t now u = u
 IsUnserved-left service (Input at why) here left offset t now u = u
 IsUnserved-left service WordsRefused here left offset t now u = u
+IsUnserved-left service Disk here left offset t now u = u
+IsUnserved-left service (File why) here left offset t now u = u
 IsUnserved-left service SourceFault here left offset t now u = u
 IsUnserved-left service Output here left offset t now u = u
 IsUnserved-left service Memory here left offset t now u = u

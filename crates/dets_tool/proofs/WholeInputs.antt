@@ -12,7 +12,7 @@ use Rattle.run_model.specs.History.{answers}
 use Rattle.host_model.specs.Source.{Stream}
 use Rattle.dets_tool.specs.declared.status.InputWhy.TheVariants.{TooMuch, Text, Etf}
 use Rattle.dets_tool.specs.declared.status.Status.{Status}
-use Rattle.dets_tool.specs.declared.status.Status.TheVariants.{Done, Input, WordsRefused, SourceFault, Output, Memory, NotYet}
+use Rattle.dets_tool.specs.declared.status.Status.TheVariants.{Done, Input, WordsRefused, Disk, SourceFault, Output, Memory, File, NotYet}
 use Rattle.dets_tool.specs.Service.{Service}
 use Rattle.dets_tool.specs.Run.{Ran, IsServed, IsWhole, IsNotBuilt}
 
@@ -70,6 +70,8 @@ whole_is_served m steady told service input whole SourceFault after said now r =
 whole_is_served m steady told service input whole Output after said now r = tt
 whole_is_served m steady told service input whole Memory after said now r = tt
 whole_is_served m steady told service input whole WordsRefused after said now r = r.end
+whole_is_served m steady told service input whole Disk after said now r = r.end
+whole_is_served m steady told service input whole (File why) after said now r = r.end
 whole_is_served m steady told service input whole (Input offset TooMuch) after said now r =
     absurd (omega (
       arith,

@@ -9,7 +9,7 @@ use Rattle.run_model.specs.History.{answers}
 use Rattle.host_model.specs.Source.{Stream}
 use Rattle.dets_tool.specs.declared.status.InputWhy.TheVariants.{TooMuch}
 use Rattle.dets_tool.specs.declared.status.Status.{Status}
-use Rattle.dets_tool.specs.declared.status.Status.TheVariants.{Done, Input, WordsRefused, SourceFault, Output, Memory, NotYet}
+use Rattle.dets_tool.specs.declared.status.Status.TheVariants.{Done, Input, WordsRefused, Disk, SourceFault, Output, Memory, File, NotYet}
 use Rattle.dets_tool.specs.Service.{Service}
 
 -- how a run stands at its end
@@ -75,9 +75,11 @@ module _ {F S : Type 0} (service : Service S) where
   IsEndOf told (Input offset TooMuch) c = (offset ≡ 2 ^ 32) × (0 < length c.past) × GoesOn c
   IsEndOf told (Input offset why) c = (c.past ≡ []) × (fault : F) × (told fault (length c.bytes) ≡ Input offset why) × BreaksRule fault c
   IsEndOf told WordsRefused c = ⊥
+  IsEndOf told Disk c = ⊥
   IsEndOf told SourceFault c = (c.past ≡ []) × GoesOn c
   IsEndOf told Output c = c.past ≡ []
   IsEndOf told Memory c = Unit {0}
+  IsEndOf told (File why) c = ⊥
   IsEndOf told (NotYet answered) c = (c.past ≡ []) × IsNotBuilt answered c
 
 -- A run over an input, up to this status: what the source tells then, and what the host tells of its output at the start and then.
@@ -107,7 +109,9 @@ abbrev pub IsServed : Status → Type 0
 IsServed Done = Unit {0}
 IsServed (Input offset why) = ⊥
 IsServed WordsRefused = ⊥
+IsServed Disk = ⊥
 IsServed SourceFault = Unit {0}
 IsServed Output = Unit {0}
 IsServed Memory = Unit {0}
+IsServed (File why) = ⊥
 IsServed (NotYet answered) = ⊥

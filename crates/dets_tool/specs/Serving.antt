@@ -8,7 +8,7 @@ use Rattle.run_model.specs.History.{answers}
 use Rattle.host_model.specs.Counts.{Rose}
 use Rattle.host_model.specs.Host.{Shown, SaysFront}
 use Rattle.dets_tool.specs.declared.status.Status.{Status}
-use Rattle.dets_tool.specs.declared.status.Status.TheVariants.{Done, Input, WordsRefused, SourceFault, Output, Memory, NotYet}
+use Rattle.dets_tool.specs.declared.status.Status.TheVariants.{Done, Input, WordsRefused, Disk, SourceFault, Output, Memory, File, NotYet}
 use Rattle.dets_tool.specs.Service.{Service}
 
 -- where a run stands
@@ -58,6 +58,8 @@ abbrev pub IsUnserved : {S : Type 0} → Service S → Status → Standing S →
 IsUnserved service Done here term now = ⊥
 IsUnserved service (Input offset why) here term now = ⊥
 IsUnserved service WordsRefused here term now = ⊥
+IsUnserved service Disk here term now = ⊥
+IsUnserved service (File why) here term now = ⊥
 IsUnserved service SourceFault here term now = ⊥
 IsUnserved {S} service Output here term now =
     (reply : TermValue) × ((after : S) × (service.step here.state term ≡ Some (reply, after)) × SaysFront (service.line reply) here.said now)

@@ -7,32 +7,44 @@ use Rattle.text_model.specs.declared.fault.TextFault.{TextFault}
 use Rattle.text_model.specs.declared.fault.TextFault.TheVariants.{Syntax, Memory as TextMemory}
 use Rattle.dets_tool.specs.declared.input_feed.PullFault.{PullFault}
 use Rattle.dets_tool.specs.declared.input_feed.PullFault.TheVariants.{SourceFault as SourceFailed, TooMuch as PastBudget}
+use Rattle.dets_tool.specs.declared.status.FileWhy.{FileWhy}
+use Rattle.dets_tool.specs.declared.status.FileWhy.TheVariants.{Empty, NotDets, Version}
 use Rattle.dets_tool.specs.declared.status.InputWhy.TheVariants.{TooMuch, Text, Etf}
 use Rattle.dets_tool.specs.declared.status.Status.{Status}
-use Rattle.dets_tool.specs.declared.status.Status.TheVariants.{Done, Input, WordsRefused, SourceFault, Output, Memory, NotYet}
+use Rattle.dets_tool.specs.declared.status.Status.TheVariants.{Done, Input, WordsRefused, Disk, SourceFault, Output, Memory, File, NotYet}
 
 -- the exit status
 abbrev pub code_of : Status → ℕ
 code_of Done = 0
 code_of (Input offset why) = 1
 code_of WordsRefused = 2
+code_of Disk = 3
 code_of SourceFault = 4
 code_of Output = 5
 code_of Memory = 6
+code_of (File why) = 7
 code_of (NotYet command) = 9
 
 -- the program's name, and the line end behind the text
 abbrev pub message : List ℕ → List ℕ
 message text = codes "dets_tool: " ++ text ++ 10 ∷ []
 
+-- why a file was refused
+abbrev pub words_of_file : FileWhy → List ℕ
+words_of_file Empty = codes "empty"
+words_of_file NotDets = codes "not a dets file"
+words_of_file (Version version) = codes "version " ++ decimal version
+
 -- the line for standard error
 abbrev pub line_of : Status → List ℕ
 line_of Done = []
 line_of (Input offset why) = message (codes "input refused at " ++ decimal offset)
 line_of WordsRefused = message (codes "words refused")
+line_of Disk = message (codes "disk fault")
 line_of SourceFault = message (codes "source fault")
 line_of Output = message (codes "output fault")
 line_of Memory = message (codes "out of memory")
+line_of (File why) = message (codes "file refused: " ++ words_of_file why)
 line_of (NotYet command) = message (codes "not yet at command " ++ decimal command)
 
 -- the end of a run where a pull gave no piece

@@ -1,11 +1,13 @@
 //! The program over any source and host, and over the real ones.
-ghost use Rattle.std.specs.Prelude.{◌≡◌, ◌≢◌, ◌↔◌, List, ℕ, false, None, Some};
+ghost use Rattle.std.specs.Prelude.{◌≡◌, ◌≢◌, ◌↔◌, List, ℕ, true, false, None, Some};
 ghost use Rattle.host_model.specs.Counts.{Rose};
 ghost use Rattle.host_model.specs.Source.{Stream};
-ghost use Rattle.dets_tool.specs.Job.{stated_job, RanJob, IsWholeInput};
+ghost use Rattle.dets_tool.specs.Checking.{Checked};
+ghost use Rattle.dets_tool.specs.Job.{stated_job, asks_disk, RanJob, IsWholeInput};
 ghost use Rattle.dets_tool.specs.declared.job.Job.{Job};
 ghost use Rattle.dets_tool.specs.Run.{IsServed};
 
+use crate::checking::check_file;
 use crate::commands::Commands;
 use crate::printing::{Encoding, Printing};
 use crate::run::run;
@@ -19,14 +21,21 @@ use std::rt::Runtime;
 use std::{env, str};
 use term_text::TextFeed;
 
-/// Does what the words ask for over the input, one term after the other: `run FILE` puts the reply to each, a command, `text`
-/// and `text decode` its printed form, each with a full stop and a line end, and `text encode` its canonical spelling; each in
-/// one piece. `text decode` reads spellings, and the other forms printed terms. `Done`: the input was read to its end, and each of
-/// its terms answered. `NotYet`: so many commands were replied to, and the next one is not built. `Input`: with `TooMuch`, a read
-/// gave a byte past 4,294,967,296; with `Text` or `Etf`, each term in front was answered, and what stands behind them has this
-/// fault, whose offset is counted from the start of the input, or is its length where spellings are cut. `SourceFault`, `Output`:
-/// a read or a put failed. `WordsRefused`: the words have none of these forms. Before the end of a run by `Output` or `Memory` a
-/// front of the output is put.
+/// Does what the words ask for.
+///
+/// `run FILE`, `text`, `text encode` and `text decode` go over the input, one term after the other: `run` puts the
+/// reply to each, a command, `text` and `text decode` its printed form, each with a full stop and a line end, and `text
+/// encode` its canonical spelling; each in one piece. `text decode` reads spellings, and the other forms printed terms.
+/// `Done`: the input was read to its end, and each of its terms answered. `NotYet`: so many commands were replied to,
+/// and the next one is not built. `Input`: with `TooMuch`, a read gave a byte past 4,294,967,296; with `Text` or `Etf`,
+/// each term in front was answered, and what stands behind them has this fault, whose offset is counted from the start
+/// of the input, or is its length where spellings are cut. Before the end of a run by `Output` or `Memory` a front of
+/// the output is put.
+///
+/// `check FILE` puts the lines of the report on the file, which is only read; no input is. `File`: the file has no bytes or no
+/// header that can be read. `Disk`: a call on it failed.
+///
+/// `SourceFault`, `Output`: a read or a put failed. `WordsRefused`: the words have none of these forms.
 pub fn dets_main<S: Source, H: Host>(
     alloc: Global,
     words: &Words,
@@ -39,31 +48,61 @@ pub fn dets_main<S: Source, H: Host>(
     ensures whole { (job : Job) (stream : Stream) → stated_job words.now ≡ Some job → S.told source.old ≡ Some stream → stream.ended ≡ false
         → IsWholeInput job stream.left → IsServed result }
 
+    // A check of a file that the host tells.
+    ensures check { (path file : List ℕ) → stated_job words.now ≡ Some (Job.Check path) → (H.shows host.old).file ≡ Some file
+        → Checked result file (H.shows host.old).said (H.shows host.new).said }
+    ensures check_reads_no_input { (path : List ℕ) → stated_job words.now ≡ Some (Job.Check path) → source.new ≡ source.old }
+
     ensures source_fault { result ≡ Status.SourceFault → Rose (S.faults source.old) (S.faults source.new) }
     ensures no_source_fault { result ≢ Status.SourceFault → result ≢ Status.Memory → S.faults source.new ≡ S.faults source.old }
     ensures output { result ≡ Status.Output → Rose (H.shows host.old).out_faults (H.shows host.new).out_faults }
+    ensures disk { result ≡ Status.Disk → Rose (H.shows host.old).disk_faults (H.shows host.new).disk_faults }
+    ensures no_disk_fault { result ≢ Status.Disk → (H.shows host.new).disk_faults ≡ (H.shows host.old).disk_faults }
 
-    // No call on the file is made.
+    // The file is only read, and only by a check.
     ensures file { (H.shows host.new).file ≡ (H.shows host.old).file }
-    ensures disk_faults { (H.shows host.new).disk_faults ≡ (H.shows host.old).disk_faults }
-    ensures reads { (H.shows host.new).reads ≡ (H.shows host.old).reads }
+    ensures asks_disk { result ≡ Status.Disk → asks_disk (stated_job words.now) ≡ true }
+    ensures reads { asks_disk (stated_job words.now) ≡ false → (H.shows host.new).reads ≡ (H.shows host.old).reads }
 
     ensures refused { result ≡ Status.WordsRefused ↔ (stated_job words.now ≡ None) }
     ensures untouched { stated_job words.now ≡ None → (source.new ≡ source.old) × (host.new ≡ host.old) }
 {
     match job_of(alloc, words) {
-        Ok(Job::Run(_)) => run(
+        Ok(job) => do_job(alloc, &job, source, host),
+        Err(WordsFault::Refused) => Status::WordsRefused,
+        Err(WordsFault::Memory) => Status::Memory,
+    }
+}
+
+/// Does a job.
+fn do_job<S: Source, H: Host>(alloc: Global, job: &Job, source: &mut S, host: &mut H) -> Status
+    ensures run { (stream : Stream) → S.told source.old ≡ Some stream → stream.ended ≡ false
+        → RanJob job.now result stream.left (S.told source.new) (H.shows host.old).said (H.shows host.new).said }
+    ensures check { (path file : List ℕ) → job.now ≡ Job.Check path → (H.shows host.old).file ≡ Some file
+        → Checked result file (H.shows host.old).said (H.shows host.new).said }
+    ensures check_reads_no_input { (path : List ℕ) → job.now ≡ Job.Check path → source.new ≡ source.old }
+    ensures source_fault { result ≡ Status.SourceFault → Rose (S.faults source.old) (S.faults source.new) }
+    ensures no_source_fault { result ≢ Status.SourceFault → result ≢ Status.Memory → S.faults source.new ≡ S.faults source.old }
+    ensures output { result ≡ Status.Output → Rose (H.shows host.old).out_faults (H.shows host.new).out_faults }
+    ensures disk { result ≡ Status.Disk → Rose (H.shows host.old).disk_faults (H.shows host.new).disk_faults }
+    ensures no_disk_fault { result ≢ Status.Disk → (H.shows host.new).disk_faults ≡ (H.shows host.old).disk_faults }
+    ensures file { (H.shows host.new).file ≡ (H.shows host.old).file }
+    ensures asks_disk { result ≡ Status.Disk → asks_disk (Some job.now) ≡ true }
+    ensures reads { asks_disk (Some job.now) ≡ false → (H.shows host.new).reads ≡ (H.shows host.old).reads }
+    ensures words { result ≢ Status.WordsRefused }
+{
+    match job {
+        Job::Run(_) => run(
             alloc,
             TextFeed::new(alloc),
             Commands::new(alloc),
             source,
             host,
         ),
-        Ok(Job::Show) => run(alloc, TextFeed::new(alloc), Printing(alloc), source, host),
-        Ok(Job::Encode) => run(alloc, TextFeed::new(alloc), Encoding(alloc), source, host),
-        Ok(Job::Decode) => run(alloc, TermFeed::new(alloc), Printing(alloc), source, host),
-        Err(WordsFault::Refused) => Status::WordsRefused,
-        Err(WordsFault::Memory) => Status::Memory,
+        Job::Check(_) => check_file(alloc, host),
+        Job::Show => run(alloc, TextFeed::new(alloc), Printing(alloc), source, host),
+        Job::Encode => run(alloc, TextFeed::new(alloc), Encoding(alloc), source, host),
+        Job::Decode => run(alloc, TermFeed::new(alloc), Printing(alloc), source, host),
     }
 }
 

@@ -60,6 +60,7 @@ pub(crate) fn run<F: Input, W: Service, S: Source, H: Host>(
     ensures disk_faults { (H.shows host.new).disk_faults ≡ (H.shows host.old).disk_faults }
     ensures reads { (H.shows host.new).reads ≡ (H.shows host.old).reads }
     ensures words { result ≢ Status.WordsRefused }
+    ensures disk { result ≢ Status.Disk }
 {
     let mut run = InputRun {
         feed,
@@ -94,6 +95,7 @@ impl<F: Input, W: Service> InputRun<F, W> {
         ensures no_source_fault { result ≢ Err Status.SourceFault → S.faults source.new ≡ S.faults source.old }
         ensures faults { TellsFaults result (H.shows host.old) (H.shows host.new) }
         ensures words { IsErrOf result Status.WordsRefused → ⊥ }
+        ensures disk { IsErrOf result Status.Disk → ⊥ }
     {
         let mut input = InputFeed::new(alloc, BUDGET)?;
         while let Piece::Bytes = input.pull(source)? {

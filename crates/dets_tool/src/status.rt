@@ -1,6 +1,6 @@
 // How a run ends.
-ghost use Rattle.std.specs.Prelude.{◌≡◌, ◌++◌, decimal, IfOk};
-ghost use Rattle.dets_tool.specs.Status.{code_of, line_of, message};
+ghost use Rattle.std.specs.Prelude.{◌≡◌, ◌++◌, codes, decimal, IfOk};
+ghost use Rattle.dets_tool.specs.Status.{code_of, line_of, message, words_of_file};
 ghost use Rattle.dets_tool.specs.declared.status.Status.TheVariants.{Memory as OutOfMemory};
 
 use crate::Memory;
@@ -19,12 +19,16 @@ pub enum Status {
     Input(u64, InputWhy),
     /// The words have none of the stated forms.
     WordsRefused,
+    /// A call on the file failed.
+    Disk,
     /// A read of the input failed.
     SourceFault,
     /// A write of the output failed.
     Output,
     /// There was no memory.
     Memory,
+    /// The file was refused.
+    File(FileWhy),
     /// So many commands were replied to, and the next one is not built yet.
     NotYet(u64),
 }
@@ -38,6 +42,17 @@ pub enum InputWhy {
     Text(TextWhy),
     /// It has this fault of the External Term Format.
     Etf(EtfFault),
+}
+
+/// Why a file was refused.
+#[derive(Drop)]
+pub enum FileWhy {
+    /// It has no bytes, or is not there.
+    Empty,
+    /// It has no header of a table's file that can be read.
+    NotDets,
+    /// The version of its header is this one.
+    Version(u8),
 }
 
 impl From<Memory> for Status {
@@ -57,9 +72,11 @@ impl Status {
             Status::Done => 0,
             Status::Input(_, _) => 1,
             Status::WordsRefused => 2,
+            Status::Disk => 3,
             Status::SourceFault => 4,
             Status::Output => 5,
             Status::Memory => 6,
+            Status::File(_) => 7,
             Status::NotYet(_) => 9,
         }
     }
@@ -72,10 +89,25 @@ impl Status {
             Status::Done => Ok(ByteList::new(alloc)),
             Status::Input(offset, _) => numbered_line(alloc, b"input refused at ", *offset),
             Status::WordsRefused => plain_line(alloc, b"words refused"),
+            Status::Disk => plain_line(alloc, b"disk fault"),
             Status::SourceFault => plain_line(alloc, b"source fault"),
             Status::Output => plain_line(alloc, b"output fault"),
             Status::Memory => plain_line(alloc, b"out of memory"),
+            Status::File(why) => file_line(alloc, why),
             Status::NotYet(command) => numbered_line(alloc, b"not yet at command ", *command),
+        }
+    }
+}
+
+// The line that says why a file was refused.
+fn file_line(alloc: Global, why: &FileWhy) -> Result<ByteList, Memory>
+    ensures { IfOk result (λ line. line ≡ message (codes "file refused: " ++ words_of_file why.now)) }
+{
+    match why {
+        FileWhy::Empty => plain_line(alloc, b"file refused: empty"),
+        FileWhy::NotDets => plain_line(alloc, b"file refused: not a dets file"),
+        FileWhy::Version(version) => {
+            numbered_line(alloc, b"file refused: version ", *version as u64)
         }
     }
 }

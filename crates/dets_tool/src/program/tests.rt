@@ -129,3 +129,52 @@ fn a_fault_of_the_text_is_told(rt: HostRuntime) -> Result<(), Fail> {
     assert_eq!(rt; said.as_slice(), FIRST_REPLY);
     Ok(())
 }
+
+/// The line of the status that a check of this file ends with, and what it said. A read of the input would fail.
+fn checked(alloc: Global, file: &[u8]) -> Result<(Vec<u8>, Vec<u8>), Memory> {
+    let mut words = Words::new(alloc);
+    words.push("check")?;
+    words.push("t")?;
+    let mut source = MemSource::new(alloc, PLAIN, 1, &[0])?;
+    let mut host = MemHost::new(alloc, file, &[])?;
+    let line = dets_main(alloc, &words, &mut source, &mut host).line(alloc)?;
+    Ok((
+        Vec::from_slice(alloc, line.as_slice())?,
+        Vec::from_slice(alloc, host.said())?,
+    ))
+}
+
+/// The body of a header of a closed set with keypos 1 and one segment of at most 8,000.
+const HEADER: [u8; 32] = [
+    68, 84, 66, 76, 1, 0, 0, 0, 0, 0, 0, 1, 0, 0, 0, 1, 0, 0, 31, 64, 255, 255, 255, 255, 0, 0, 0,
+    0, 0, 0, 0, 0,
+];
+
+const REPORT: &[u8] =
+    b"{head,set,1,closed,1,8000}.\n{table,0,0}.\n{index,absent}.\n{sound,false}.\n{needs_repair,true}.\n";
+
+const EMPTY_FILE: &[u8] = b"dets_tool: file refused: empty\n";
+
+const NO_DETS_FILE: &[u8] = b"dets_tool: file refused: not a dets file\n";
+
+const VERSION_9: &[u8] = b"dets_tool: file refused: version 9\n";
+
+#[test]
+fn a_file_is_checked(rt: HostRuntime) -> Result<(), Fail> {
+    let mut page = vec![in rt.alloc(); 0; 4096]?;
+    let none = checked(rt.alloc(), &[])?;
+    assert_eq!(rt; none.0.as_slice(), EMPTY_FILE);
+    let zeros = checked(rt.alloc(), &page)?;
+    assert_eq!(rt; zeros.0.as_slice(), NO_DETS_FILE);
+    page[0] = 165;
+    page[16..48].copy_from_slice(&HEADER);
+    // The segment of the header is not there.
+    let cut = checked(rt.alloc(), &page)?;
+    assert!(rt; cut.0.is_empty());
+    assert_eq!(rt; cut.1.as_slice(), REPORT);
+    page[20] = 9;
+    let other = checked(rt.alloc(), &page)?;
+    assert_eq!(rt; other.0.as_slice(), VERSION_9);
+    assert!(rt; other.1.is_empty());
+    Ok(())
+}

@@ -5,10 +5,10 @@ use Rattle.feed_model.specs.Meaning.{goes_on, no_term}
 use Rattle.feed_model.specs.Feed.{Feed, total}
 use Rattle.dets_tool.specs.InputFeed.{InputFeedValue, Pulled}
 use Rattle.dets_tool.specs.declared.input_feed.Piece.{Piece}
-use Rattle.dets_tool.specs.declared.status.Status.TheVariants.{SourceFault, WordsRefused}
+use Rattle.dets_tool.specs.declared.status.Status.TheVariants.{Disk, SourceFault, WordsRefused}
 use Rattle.dets_tool.specs.Serving.{standing, behind_piece, Serves, Breaks}
 use Rattle.dets_tool.proofs.InputRuns.{no_input, taken_none, taken_piece, piece_breaks, pull_fails, ran_behind, broken_by}
-use Rattle.dets_tool.proofs.InputRuns.{no_source_fault, no_words}
+use Rattle.dets_tool.proofs.InputRuns.{no_source_fault, no_words, no_disk_fault}
 use Rattle.dets_tool.proofs.run.InputRun.serve_input.Goals as goal
 
 ok_is_no_err : {A E : Type 0} (a : A) (e : E) (r : Result A E) → r ≡ Ok a → r ≢ Err e
@@ -112,6 +112,13 @@ returns-in_err-serve_piece-clause-words g c = λ e.
     no_words g.F.Feed.meaning g.F.Input.told g.W.Service.service g.met.F.Input.of_others _ _ _ _
     c.in_err-serve_piece.ensures.breaks (sym p.2 ∙ same)
 
+pub returns-in_err-serve_piece-clause-disk : goal.returns-in_err-serve_piece-clause-disk
+returns-in_err-serve_piece-clause-disk g c = λ e.
+    let p = err_from_is_err_and c.from_residual-in_err-serve_piece.result c.from_residual-in_err-serve_piece.ensures.1 in
+    let same : p.0 ≡ Disk = cc in
+    no_disk_fault g.F.Feed.meaning g.F.Input.told g.W.Service.service g.met.F.Input.of_others _ _ _ _
+    c.in_err-serve_piece.ensures.breaks (sym p.2 ∙ same)
+
 pub returns-clause-ran : goal.returns-clause-ran
 returns-clause-ran g c = λ stream told ended.
     let i = c.loop-input.invariant in
@@ -130,3 +137,8 @@ pub returns-clause-words : goal.returns-clause-words
 returns-clause-words g c = λ e.
     broken_by g.F.Feed.meaning g.F.Input.told g.W.Service.service c.serve_whole.result _ _ _ _ e c.serve_whole.ensures.breaks
     (λ b. no_words g.F.Feed.meaning g.F.Input.told g.W.Service.service g.met.F.Input.of_others _ _ _ _ b refl)
+
+pub returns-clause-disk : goal.returns-clause-disk
+returns-clause-disk g c = λ e.
+    broken_by g.F.Feed.meaning g.F.Input.told g.W.Service.service c.serve_whole.result _ _ _ _ e c.serve_whole.ensures.breaks
+    (λ b. no_disk_fault g.F.Feed.meaning g.F.Input.told g.W.Service.service g.met.F.Input.of_others _ _ _ _ b refl)
