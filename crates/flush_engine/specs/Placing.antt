@@ -1,0 +1,57 @@
+-- Where the new blocks of the changes of a command are placed, before anything else of a book changes. This project's own.
+use Rattle.std.specs.Prelude.{◌≡◌, ℕ, ◌-◌, Option, Some, None, option_and_then, Result, Ok, Err}
+use Rattle.space_model.specs.Sizes.{segment_units}
+use Rattle.space_model.specs.Runs.{run}
+use Rattle.space_model.specs.Ledger.{Placed, place_growing}
+use Rattle.file_model.specs.declared.block.Packed.{Packed}
+use Rattle.file_model.specs.declared.entry.Entry.{Entry}
+use Rattle.write_cache.specs.declared.pending.Pending.{Pending}
+use Rattle.buddy_space.specs.SpaceState.{SpaceState, held, taking, giving}
+use Rattle.book_model.specs.Book.{entry_run, pending_entry}
+use Rattle.book_model.specs.Planning.{kept_unit}
+use Rattle.flush_engine.specs.declared.fault.PlanFault.{PlanFault}
+use Rattle.flush_engine.specs.declared.fault.PlanFault.TheVariants.{Full}
+
+abbrev pub in_segments : ℕ → SpaceState → SpaceState
+in_segments segments s = record s { segments = segments }
+
+-- the place of a new run in a space that may grow to so many segments
+abbrev pub place_in : ℕ → SpaceState → ℕ → Option Placed
+place_in most s exp = place_growing segment_units (held s) exp s.segments (most - s.segments)
+
+-- the space with the new run
+abbrev pub placed_run : SpaceState → ℕ → Placed → SpaceState
+placed_run s exp at = taking (in_segments at.segments s) (run at.unit exp)
+
+-- a space in which a change has its place, and the first unit of the new block, 0 where it has none
+pub record Placing : Type 0 where
+  pub space : SpaceState
+  pub unit : ℕ
+
+-- the block that a key which waits has
+abbrev pub block_of : Option Pending → Option Entry
+block_of earlier = option_and_then pending_entry earlier
+
+-- its run is given back
+abbrev pub giving_up : Option Entry → SpaceState → SpaceState
+giving_up None s = s
+giving_up (Some e) s = giving s (entry_run e)
+
+abbrev pub placed_at : Option Entry → SpaceState → ℕ → Option Placed → Result Placing ℕ
+placed_at old s exp None = Err exp
+placed_at old s exp (Some at) = Ok (record { space = giving_up old (placed_run s exp at); unit = at.unit })
+
+abbrev pub placed_with : ℕ → Option Entry → SpaceState → ℕ → Option ℕ → Result Placing ℕ
+placed_with most old s exp (Some unit) = Ok (record { space = s; unit = unit })
+placed_with most old s exp None = placed_at old s exp (place_in most s exp)
+
+-- Of a key that waits in this state, or does not: a pending block of the exponent stays. Else the new run is placed while the
+-- old one is held, which is then given back.
+abbrev pub placed : ℕ → Option Pending → SpaceState → Option Packed → Result Placing ℕ
+placed most earlier s None = Ok (record { space = giving_up (block_of earlier) s; unit = 0 })
+placed most earlier s (Some p) = placed_with most (block_of earlier) s p.exp (kept_unit earlier p.exp)
+
+-- what a call makes of a space, and answers, where the definition gives this
+abbrev pub IsPlaced : Result Placing ℕ → (most : ℕ) (old new : SpaceState) → Result ℕ PlanFault → Type 0
+IsPlaced (Ok at) most old new result = (result ≡ Ok at.unit) × (new ≡ at.space)
+IsPlaced (Err exp) most old new result = (result ≡ Err (Full exp)) × (new ≡ in_segments most old)
