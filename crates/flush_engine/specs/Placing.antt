@@ -1,12 +1,14 @@
 -- Where the new blocks of the changes of a command are placed, before anything else of a book changes. This project's own.
-use Rattle.std.specs.Prelude.{◌≡◌, ℕ, ◌-◌, Option, Some, None, option_and_then, Result, Ok, Err}
+use Rattle.std.specs.Prelude.{◌≡◌, ℕ, ◌-◌, List, [], ◌∷◌, Option, Some, None, option_and_then, Result, Ok, Err}
 use Rattle.space_model.specs.Sizes.{segment_units}
 use Rattle.space_model.specs.Runs.{run}
 use Rattle.space_model.specs.Ledger.{Placed, place_growing}
 use Rattle.file_model.specs.declared.block.Packed.{Packed}
 use Rattle.file_model.specs.declared.entry.Entry.{Entry}
 use Rattle.write_cache.specs.declared.pending.Pending.{Pending}
+use Rattle.write_cache.specs.Waiting.{Waiting, state_of}
 use Rattle.buddy_space.specs.SpaceState.{SpaceState, held, taking, giving}
+use Rattle.book_model.specs.declared.change.Change.{Change}
 use Rattle.book_model.specs.Book.{entry_run, pending_entry}
 use Rattle.book_model.specs.Planning.{kept_unit}
 use Rattle.flush_engine.specs.declared.fault.PlanFault.{PlanFault}
@@ -55,3 +57,23 @@ placed most earlier s (Some p) = placed_with most (block_of earlier) s p.exp (ke
 abbrev pub IsPlaced : Result Placing ℕ → (most : ℕ) (old new : SpaceState) → Result ℕ PlanFault → Type 0
 IsPlaced (Ok at) most old new result = (result ≡ Ok at.unit) × (new ≡ at.space)
 IsPlaced (Err exp) most old new result = (result ≡ Err (Full exp)) × (new ≡ in_segments most old)
+
+-- ---- of the changes of a command, in order
+
+-- the space, and the first unit of each new block
+pub record Places : Type 0 where
+  pub space : SpaceState
+  pub units : List ℕ
+
+abbrev pub with_unit : ℕ → Result Places ℕ → Result Places ℕ
+with_unit unit (Ok p) = Ok (record { space = p.space; units = unit ∷ p.units })
+with_unit unit (Err exp) = Err exp
+
+abbrev pub then_placed : Result Placing ℕ → (SpaceState → Result Places ℕ) → Result Places ℕ
+then_placed (Ok at) rest = with_unit at.unit (rest at.space)
+then_placed (Err exp) rest = Err exp
+
+-- the keys that wait are those of the book before the command
+abbrev pub all_placed : ℕ → Waiting → SpaceState → List Change → Result Places ℕ
+all_placed most w s [] = Ok (record { space = s; units = [] })
+all_placed most w s (c ∷ cs) = then_placed (placed most (state_of w c.key) s c.next) (λ next. all_placed most w next cs)
