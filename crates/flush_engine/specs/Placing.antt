@@ -1,13 +1,14 @@
 -- Where the new blocks of the changes of a command are placed, before anything else of a book changes. This project's own.
-use Rattle.std.specs.Prelude.{◌≡◌, ℕ, ◌-◌, List, [], ◌∷◌, Option, Some, None, option_and_then, Result, Ok, Err}
+use Rattle.std.specs.Prelude.{◌≡◌, ◌≤◌, ℕ, ◌-◌, if◌then◌else◌, IfSome, List, [], ◌∷◌, Option, Some, None, option_and_then, Result, Ok, Err}
 use Rattle.space_model.specs.Sizes.{segment_units}
 use Rattle.space_model.specs.Runs.{run}
+use Rattle.space_model.specs.Apart.{In}
 use Rattle.space_model.specs.Ledger.{Placed, place_growing}
 use Rattle.file_model.specs.declared.block.Packed.{Packed}
 use Rattle.file_model.specs.declared.entry.Entry.{Entry}
 use Rattle.write_cache.specs.declared.pending.Pending.{Pending}
 use Rattle.write_cache.specs.Waiting.{Waiting, state_of}
-use Rattle.buddy_space.specs.SpaceState.{SpaceState, held, taking, giving}
+use Rattle.buddy_space.specs.SpaceState.{SpaceState, most_segments, largest_exp, held, is_free_run, IsParted, taking, giving}
 use Rattle.book_model.specs.declared.change.Change.{Change}
 use Rattle.book_model.specs.Book.{entry_run, pending_entry}
 use Rattle.book_model.specs.Planning.{kept_unit}
@@ -77,3 +78,24 @@ then_placed (Err exp) rest = Err exp
 abbrev pub all_placed : ℕ → Waiting → SpaceState → List Change → Result Places ℕ
 all_placed most w s [] = Ok (record { space = s; units = [] })
 all_placed most w s (c ∷ cs) = then_placed (placed most (state_of w c.key) s c.next) (λ next. all_placed most w next cs)
+
+-- ---- undone
+
+-- the run of a block that was given back is taken again
+abbrev pub reclaimed : Option Entry → SpaceState → SpaceState
+reclaimed None s = s
+reclaimed (Some e) s = if is_free_run s (entry_run e) then taking s (entry_run e) else s
+
+-- A change of a key that waits so, or does not, was placed in a space, which has come to this by it: as it was then, with as
+-- many segments or more.
+pub record WasPlaced (earlier : Option Pending) (next : Option Packed) (unit : ℕ) (s now : SpaceState) : Type 0 where
+  pub parted : IsParted s
+  pub block : IfSome (block_of earlier) (λ e. In (entry_run e) s.taken)
+  pub exp : IfSome next (λ p. p.exp ≤ largest_exp)
+  pub most : ℕ
+  pub at : Placing
+  pub placed_so : placed most earlier s next ≡ Ok at
+  pub unit_is : at.unit ≡ unit
+  pub grown : at.space.segments ≤ now.segments
+  pub fits : now.segments ≤ most_segments
+  pub since : now ≡ in_segments now.segments at.space

@@ -16,6 +16,7 @@ pub(crate) fn take_growing(space: &mut Space, most: u32, exp: u8) -> Result<u32,
     ensures placed { result ≢ Err PlanFault.Memory → MatchOption (place_in most space.old exp)
         ((result ≡ Err (PlanFault.Full exp)) × (space.new ≡ in_segments most space.old))
         (λ at. (result ≡ Ok at.unit) × (space.new ≡ placed_run space.old exp at)) }
+    ensures segments { space.new.segments ≤ most }
     ensures kept { (r : Run) → In r space.old.taken → In r space.new.taken }
 {
     loop {

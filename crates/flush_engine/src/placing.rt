@@ -4,9 +4,10 @@ ghost use Rattle.std.specs.Option.{option_copied};
 ghost use Rattle.space_model.specs.Runs.{run};
 ghost use Rattle.space_model.specs.Apart.{In};
 ghost use Rattle.file_model.specs.declared.entry.Entry.{Entry};
+ghost use Rattle.buddy_space.specs.SpaceState.{SpaceState};
 ghost use Rattle.book_model.specs.Book.{entry_run};
 ghost use Rattle.book_model.specs.Planning.{kept_unit};
-ghost use Rattle.flush_engine.specs.Placing.{block_of, giving_up, placed, IsPlaced};
+ghost use Rattle.flush_engine.specs.Placing.{block_of, in_segments, giving_up, placed, IsPlaced, reclaimed, WasPlaced};
 
 use crate::PlanFault;
 use crate::growing::take_growing;
@@ -46,7 +47,7 @@ fn give_up(space: &mut Space, earlier: Option<&Pending>)
 /// Places the new block of a key that waits in this state, or does not, and gives back the run of a pending block that goes.
 /// Gives the first unit of the new block, 0 where there is none. `Full` where it has no place with all segments, which then
 /// are there, and nothing else has changed.
-pub(crate) fn place_change(
+pub fn place_change(
     space: &mut Space,
     most: u32,
     earlier: Option<&Pending>,
@@ -56,7 +57,8 @@ pub(crate) fn place_change(
     requires segments { space.old.segments ≤ most }
     requires exp { IfSome (option_copied next) (λ p. p.exp ≤ 12) }
     requires pending { IfSome (block_of (option_copied earlier)) (λ e. In (entry_run e) space.old.taken) }
-    ensures { result ≢ Err PlanFault.Memory
+    ensures segments { space.new.segments ≤ most }
+    ensures placed { result ≢ Err PlanFault.Memory
         → IsPlaced (placed most (option_copied earlier.entry) space.old (option_copied next.entry)) most space.old space.new result }
 {
     let Some(packed) = next else {
@@ -69,4 +71,30 @@ pub(crate) fn place_change(
     let unit = take_growing(space, most, packed.exp)?;
     give_up(space, earlier);
     Ok(unit)
+}
+
+/// Takes the run of a pending block again, where it is free.
+fn reclaim(space: &mut Space, earlier: Option<&Pending>)
+    requires { IfSome (block_of (option_copied earlier)) (λ e. e.exp ≤ 12) }
+    ensures { space.new ≡ reclaimed (block_of (option_copied earlier.entry)) space.old }
+{
+    if let Some((unit, exp)) = pending_run(earlier) {
+        space.claim(unit, exp);
+    }
+}
+
+/// Undoes what `place_change` did, but for the segments that were added then or since.
+pub fn take_back(space: &mut Space, earlier: Option<&Pending>, next: Option<&Packed>, unit: u32)
+    requires { (s : SpaceState) × WasPlaced (option_copied earlier) (option_copied next) unit s space.old }
+    ensures { (s : SpaceState) → WasPlaced (option_copied earlier.entry) (option_copied next.entry) unit s space.old
+        → space.new ≡ in_segments space.old.segments s }
+{
+    match next {
+        None => reclaim(space, earlier),
+        Some(packed) if kept_unit(earlier, packed.exp).is_some() => {}
+        Some(packed) => {
+            reclaim(space, earlier);
+            space.give(unit, packed.exp);
+        }
+    }
 }

@@ -1,4 +1,4 @@
-use Rattle.std.proofs.Common.{◌≡◌, ◌≤◌, ◌<◌, ℕ, None, ◌∙◌, ap, sym, subst, arith}
+use Rattle.std.proofs.Common.{◌≡◌, ◌<◌, ℕ, None, ◌∙◌, ap, sym, subst, arith}
 use Rattle.space_model.specs.Sizes.{segment_units}
 use Rattle.space_model.specs.Runs.{run, place}
 use Rattle.space_model.specs.Apart.{In}
