@@ -1,3 +1,4 @@
 -- Lemmas that several proofs share.
 pub mod NextSegment
 pub mod Undone
+pub mod Others

@@ -1,7 +1,7 @@
 -- Where the new blocks of the changes of a command are placed, before anything else of a book changes. This project's own.
-use Rattle.std.specs.Prelude.{◌≡◌, ◌≤◌, ℕ, ◌-◌, if◌then◌else◌, IfSome, List, [], ◌∷◌, Option, Some, None, option_and_then, Result, Ok, Err}
+use Rattle.std.specs.Prelude.{◌≡◌, ◌≢◌, ◌≤◌, ℕ, ◌-◌, if◌then◌else◌, IfSome, List, [], ◌∷◌, Option, Some, None, option_and_then, Result, Ok, Err}
 use Rattle.space_model.specs.Sizes.{segment_units}
-use Rattle.space_model.specs.Runs.{run}
+use Rattle.space_model.specs.Runs.{Run, run}
 use Rattle.space_model.specs.Apart.{In}
 use Rattle.space_model.specs.Ledger.{Placed, place_growing}
 use Rattle.file_model.specs.declared.block.Packed.{Packed}
@@ -34,6 +34,11 @@ pub record Placing : Type 0 where
 -- the block that a key which waits has
 abbrev pub block_of : Option Pending → Option Entry
 block_of earlier = option_and_then pending_entry earlier
+
+-- a run does not begin where that block does
+abbrev pub BeginsElsewhere : Run → Option Entry → Type 0
+BeginsElsewhere r None = Unit {0}
+BeginsElsewhere r (Some e) = r.unit ≢ e.unit
 
 -- its run is given back
 abbrev pub giving_up : Option Entry → SpaceState → SpaceState

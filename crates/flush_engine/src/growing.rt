@@ -2,6 +2,7 @@
 ghost use Rattle.std.specs.Prelude.{◌≡◌, ◌≢◌, ◌≤◌, Ok, Err, MatchOption};
 ghost use Rattle.space_model.specs.Runs.{Run};
 ghost use Rattle.space_model.specs.Apart.{In};
+ghost use Rattle.buddy_space.specs.SpaceState.{IsParted};
 ghost use Rattle.flush_engine.specs.Placing.{in_segments, place_in, placed_run};
 
 use crate::PlanFault;
@@ -17,6 +18,8 @@ pub(crate) fn take_growing(space: &mut Space, most: u32, exp: u8) -> Result<u32,
         ((result ≡ Err (PlanFault.Full exp)) × (space.new ≡ in_segments most space.old))
         (λ at. (result ≡ Ok at.unit) × (space.new ≡ placed_run space.old exp at)) }
     ensures segments { space.new.segments ≤ most }
+    ensures grows { space.old.segments ≤ space.new.segments }
+    ensures parted { IsParted space.new }
     ensures kept { (r : Run) → In r space.old.taken → In r space.new.taken }
 {
     loop {

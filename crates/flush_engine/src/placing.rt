@@ -1,13 +1,13 @@
 //! The places of the new blocks of a command, before anything else of a book changes.
 ghost use Rattle.std.specs.Prelude.{◌≡◌, ◌≢◌, ◌≤◌, ℕ, Ok, Err, Some, IfSome, option_map};
 ghost use Rattle.std.specs.Option.{option_copied};
-ghost use Rattle.space_model.specs.Runs.{run};
+ghost use Rattle.space_model.specs.Runs.{Run, run};
 ghost use Rattle.space_model.specs.Apart.{In};
 ghost use Rattle.file_model.specs.declared.entry.Entry.{Entry};
-ghost use Rattle.buddy_space.specs.SpaceState.{SpaceState};
+ghost use Rattle.buddy_space.specs.SpaceState.{SpaceState, IsParted};
 ghost use Rattle.book_model.specs.Book.{entry_run};
 ghost use Rattle.book_model.specs.Planning.{kept_unit};
-ghost use Rattle.flush_engine.specs.Placing.{block_of, in_segments, giving_up, placed, IsPlaced, reclaimed, WasPlaced};
+ghost use Rattle.flush_engine.specs.Placing.{block_of, in_segments, BeginsElsewhere, giving_up, placed, IsPlaced, reclaimed, WasPlaced};
 
 use crate::PlanFault;
 use crate::growing::take_growing;
@@ -37,7 +37,10 @@ fn kept_unit(earlier: Option<&Pending>, exp: u8) -> Option<u32>
 /// Gives back the run of a pending block.
 fn give_up(space: &mut Space, earlier: Option<&Pending>)
     requires { IfSome (block_of (option_copied earlier)) (λ e. In (entry_run e) space.old.taken) }
-    ensures { space.new ≡ giving_up (block_of (option_copied earlier.entry)) space.old }
+    ensures given { space.new ≡ giving_up (block_of (option_copied earlier.entry)) space.old }
+    ensures segments { space.new.segments ≡ space.old.segments }
+    ensures parted { IsParted space.old → IsParted space.new }
+    ensures others { (r : Run) → In r space.old.taken → BeginsElsewhere r (block_of (option_copied earlier.entry)) → In r space.new.taken }
 {
     if let Some((unit, exp)) = pending_run(earlier) {
         space.give(unit, exp);
@@ -58,6 +61,9 @@ pub fn place_change(
     requires exp { IfSome (option_copied next) (λ p. p.exp ≤ 12) }
     requires pending { IfSome (block_of (option_copied earlier)) (λ e. In (entry_run e) space.old.taken) }
     ensures segments { space.new.segments ≤ most }
+    ensures grows { space.old.segments ≤ space.new.segments }
+    ensures parted { IsParted space.old → IsParted space.new }
+    ensures others { (r : Run) → In r space.old.taken → BeginsElsewhere r (block_of (option_copied earlier.entry)) → In r space.new.taken }
     ensures placed { result ≢ Err PlanFault.Memory
         → IsPlaced (placed most (option_copied earlier.entry) space.old (option_copied next.entry)) most space.old space.new result }
 {

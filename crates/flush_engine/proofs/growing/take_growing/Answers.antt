@@ -14,6 +14,7 @@ grows-next : (most exp : ℕ) (first now next : SpaceState) → Grows most exp f
 grows-next most exp first now next g is none below =
     let less : now.segments < most = omega (arith, g.inside, below) in
     subst (λ s. Grows most exp first s) (sym is) (record {
+      least = omega (arith, g.least);
       inside = omega (arith, less);
       space = ap with_segment g.space;
       place = place-grown segment_units (held now) exp now.segments most less none ∙ g.place;

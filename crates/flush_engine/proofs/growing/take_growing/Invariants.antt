@@ -5,6 +5,7 @@ use Rattle.flush_engine.specs.Placing.{in_segments, place_in}
 use Rattle.flush_engine.proofs.growing.take_growing.Given as goal
 
 pub record Grows (most exp : ℕ) (first now : SpaceState) : Type 0 where
+  pub least : first.segments ≤ now.segments
   pub inside : now.segments ≤ most
   pub space : now ≡ in_segments now.segments first
   pub place : place_in most now exp ≡ place_in most first exp

@@ -15,3 +15,9 @@ still-taken (Some e) old new kept i = kept (entry_run e) i
 
 pub give_up-requires-2 : goal.give_up-requires-2
 give_up-requires-2 c = still-taken (block_of (option_copied c.args.earlier)) c.args.space.now.taken _ c.take_growing.ensures.kept c.requires.pending
+
+pub returns-in_err-unit-clause-others : goal.returns-in_err-unit-clause-others
+returns-in_err-unit-clause-others c = λ r a other. c.take_growing.ensures.kept r a
+
+pub returns-clause-others : goal.returns-clause-others
+returns-clause-others c = λ r a other. c.give_up-2.ensures.others r (c.take_growing.ensures.kept r a) other
