@@ -2,3 +2,6 @@
 pub mod NextSegment
 pub mod Undone
 pub mod Others
+pub mod LastStep
+pub mod Placed
+pub mod Bridge

@@ -1,2 +1,4 @@
 -- The definitions of this crate.
 pub mod Placing
+pub mod Steps
+pub mod Ahead

@@ -52,4 +52,11 @@ impl Changes {
     {
         self.items.get(place)
     }
+
+    /// All changes in order.
+    pub(crate) fn as_slice(&self) -> &[Change]
+        ensures { result.now ≡ self.now }
+    {
+        self.items.as_slice()
+    }
 }

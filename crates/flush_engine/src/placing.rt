@@ -50,7 +50,7 @@ fn give_up(space: &mut Space, earlier: Option<&Pending>)
 /// Places the new block of a key that waits in this state, or does not, and gives back the run of a pending block that goes.
 /// Gives the first unit of the new block, 0 where there is none. `Full` where it has no place with all segments, which then
 /// are there, and nothing else has changed.
-pub fn place_change(
+pub(crate) fn place_change(
     space: &mut Space,
     most: u32,
     earlier: Option<&Pending>,
@@ -90,7 +90,12 @@ fn reclaim(space: &mut Space, earlier: Option<&Pending>)
 }
 
 /// Undoes what `place_change` did, but for the segments that were added then or since.
-pub fn take_back(space: &mut Space, earlier: Option<&Pending>, next: Option<&Packed>, unit: u32)
+pub(crate) fn take_back(
+    space: &mut Space,
+    earlier: Option<&Pending>,
+    next: Option<&Packed>,
+    unit: u32,
+)
     requires { (s : SpaceState) × WasPlaced (option_copied earlier) (option_copied next) unit s space.old }
     ensures { (s : SpaceState) → WasPlaced (option_copied earlier.entry) (option_copied next.entry) unit s space.old
         → space.new ≡ in_segments space.old.segments s }
