@@ -301,7 +301,7 @@ module _ (laws : PlaceLaws) (known : LedgerLaws) (b : Book) (s : SpaceState) (w 
 -- ---- a command
 
 -- the changes of other keys leave the state of a key
-others_kept : (laws : PlaceLaws) (cs : List Change) (b new : Book) (key : List ℕ) → IsWellFormed segment_units b → ((d : Change) → In d cs → IsChange b d)
+pub others_kept : (laws : PlaceLaws) (cs : List Change) (b new : Book) (key : List ℕ) → IsWellFormed segment_units b → ((d : Change) → In d cs → IsChange b d)
     → Pairs OtherKey cs → Pairs OtherEntry cs → ((d : Change) → In d cs → bytes_eq d.key key ≡ false) → serve_all segment_units b cs ≡ Ok new
     → state_of new.cache key ≡ state_of b.cache key
 others_kept laws cs b new key formed can keys olds other is = (all_kept segment_units
@@ -359,7 +359,7 @@ module _ (laws : PlaceLaws) (known : LedgerLaws) (most : ℕ) (w : Waiting) wher
   bridge_from b s changes max formed are waits ahead = all_matched changes b s max formed are.each are.keys are.entries waits ahead
 
 -- what the crates below prove of places and states
-place_laws : PlaceLaws
+pub place_laws : PlaceLaws
 place_laws = record {
   is_run = place_is_run;
   apart = place_is_apart;
@@ -369,7 +369,7 @@ place_laws = record {
   others = other_states;
 }
 
-ledger_laws : LedgerLaws
+pub ledger_laws : LedgerLaws
 ledger_laws = record { same_place = place_same; put = ledger_of-with_state; block = packed_of-ledger_of }
 
 pub bridge : (b : Book) (s : SpaceState) (w : Waiting) (changes : List Change) → IsWellFormed segment_units b → AreChanges b changes

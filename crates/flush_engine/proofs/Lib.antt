@@ -5,3 +5,7 @@ pub mod Others
 pub mod LastStep
 pub mod Placed
 pub mod Bridge
+pub mod Parts
+pub mod Few
+pub mod Entered
+pub mod Planned

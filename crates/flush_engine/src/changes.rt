@@ -59,4 +59,11 @@ impl Changes {
     {
         self.items.as_slice()
     }
+
+    /// The changes themselves.
+    pub(crate) fn into_vec(self) -> Vec<Change>
+        ensures { result.items ≡ self }
+    {
+        self.items
+    }
 }

@@ -6,16 +6,21 @@
 #![tactic(auto)]
 
 pub use all::place_all;
+pub use book::Book;
 pub use book_model::Change;
 pub use changes::Changes;
 pub use fault::PlanFault;
+pub use planning::plan;
 pub use std::alloc::AllocError as Memory;
 
 mod all;
+mod book;
 mod changes;
+mod entering;
 mod fault;
 mod growing;
 pub mod laws;
 mod placing;
+mod planning;
 #[cfg(test)]
 mod tests;
