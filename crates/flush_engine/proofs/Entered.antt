@@ -1,7 +1,9 @@
 -- A change comes into the book that is kept in memory as the book that serves it has it.
-use Rattle.std.proofs.Common.{◌≡◌, ◌≢◌, ◌≤◌, ◌<◌, ◌⊎◌, inl, inr, ⊎_elim, ℕ, ◌+◌, ◌-◌, ◌*◌, ◌^◌, List, [], ◌∷◌, ◌++◌, length, Option, Some, None, Result, Ok, Err, refl, sym, ap, ◌∙◌, subst, arith}
+use Rattle.std.proofs.Common.{◌≡◌, ◌≢◌, ◌≤◌, ◌<◌, ◌⊎◌, inl, inr, ⊎_elim, ℕ, ◌+◌, ◌-◌, ◌*◌, ◌^◌, false, List, [], ◌∷◌, ◌++◌, length, drop, get_or, Option, Some, None, Result, Ok, Err, refl, sym, ap, ◌∙◌, subst, arith}
 use Rattle.std.specs.Prelude.{IfSome, bytes_eq}
 use Rattle.std.proofs.lemmas.Nat.{mul-le, pow_pos}
+use Rattle.std.proofs.lemmas.Bool.{cases_lt}
+use Rattle.std.proofs.lemmas.List.{drop_all, drop_more}
 use Rattle.space_model.specs.Sizes.{segment_units}
 use Rattle.space_model.specs.Runs.{Run}
 use Rattle.space_model.specs.Apart.{In, SameMembers, Pairs}
@@ -43,7 +45,7 @@ record Served (mid : Book) (c : Change) (unit : ℕ) (next : Book) : Type 0 wher
   deferred : next.space.deferred ≡ with_deferred (state_of mid.cache c.key) c.old mid.space.deferred
 
 -- the unit of the state that a key has
-unit_of : Option Pending → ℕ
+abbrev unit_of : Option Pending → ℕ
 unit_of None = 0
 unit_of (Some s) = s.unit
 
@@ -68,6 +70,14 @@ by_moves mid next c unit m same =
           ∙ (λ i. with_state mid.cache c.key (record (emptied c (state_of mid.cache c.key)) { block = some i; unit = same i }));
       deferred = ap (λ (b : Book). b.space.deferred) m.is;
     }
+
+-- what is known of the book when a change has come
+pub record IsEntered (c : Change) (unit : ℕ) (now then : KeptBook) : Type 0 where
+  pub place : then.place ≡ now.place
+  pub runs : then.space ≡ left_runs (state_of now.cache c.key) c.old now.space
+  pub entries : by_slot then.directory ≡ come_entries (next_entry c.hash unit c.next) (left_entries c.old (by_slot now.directory))
+  pub room : (es : List Entry) → HasRoomFor now.directory (in_front (next_entry c.hash unit c.next) es) → HasRoomFor then.directory es
+  pub state : then.cache ≡ with_state now.cache c.key (next_state c unit (state_of now.cache c.key))
 
 module _ (before : Waiting) (new mid : Book) (c : Change) (cs : List Change) (unit : ℕ) (units : List ℕ) (now : KeptBook)
     (coming : Coming before new mid (c ∷ cs) (unit ∷ units) now) where
@@ -275,20 +285,12 @@ module _ (before : Waiting) (new mid : Book) (c : Change) (cs : List Change) (un
 
   -- ---- all of it
 
-  -- what is known of the book then
-  pub record IsEntered (then : KeptBook) : Type 0 where
-    pub place : then.place ≡ now.place
-    pub runs : then.space ≡ left_runs (state_of now.cache c.key) c.old now.space
-    pub entries : by_slot then.directory ≡ come_entries (next_entry c.hash unit c.next) (left_entries c.old (by_slot now.directory))
-    pub room : (es : List Entry) → HasRoomFor now.directory (in_front (next_entry c.hash unit c.next) es) → HasRoomFor then.directory es
-    pub state : then.cache ≡ with_state now.cache c.key (next_state c unit (state_of now.cache c.key))
-
-  pub comes_more : (then : KeptBook) → IsEntered then → Coming before new new_mid cs units then
+  pub comes_more : (then : KeptBook) → IsEntered c unit now then → (m : Book) × Coming before new m cs units then
   comes_more then e =
       let runs = subst (λ (s : SpaceState). Runs s) (sym (e.runs ∙ ap (λ s. left_runs s c.old now.space) now_earlier)) (runs_by earlier c.old refl refl) in
       let left = left_directory c.old in
       let some : 1 ≤ length (left_entries c.old slots) = omega (arith, left.many) in
-      record {
+      (new_mid, record {
         formed = new_formed;
         are = record { each = on_each; keys = coming.are.keys.1; entries = coming.are.entries.1 };
         served = next.rest;
@@ -305,4 +307,32 @@ module _ (before : Waiting) (new mid : Book) (c : Change) (cs : List Change) (un
         slots = subst (λ b. IsDirectory b) (sym e.entries) (come_directory (next_entry c.hash unit c.next) (left_entries c.old slots) left lacks);
         room = e.room (new_entries cs units) coming.room;
         cache = e.state ∙ (λ i. with_state (coming.cache i) c.key (next_state c unit (state_of (coming.cache i) c.key))) ∙ sym served.cache;
-      }
+      })
+
+-- ---- by the place of its unit
+
+-- there is a unit for the next change
+unit_there : (before : Waiting) (new mid : Book) (c : Change) (cs : List Change) (units : List ℕ) (now : KeptBook) (place : ℕ)
+    → Coming before new mid (c ∷ cs) (drop place units) now → place < length units
+unit_there before new mid c cs units now place coming = ⊎_elim
+    (λ (less : place < length units). less)
+    (λ (past : length units ≤ place). absurd (subst (λ us. HaveUnits before new.cache (c ∷ cs) us) (drop_all place units past) coming.units_are))
+    (cases_lt place (length units))
+
+next_unit : (before : Waiting) (new mid : Book) (c : Change) (cs rest : List Change) (units : List ℕ) (now : KeptBook) (place : ℕ) → rest ≡ c ∷ cs
+    → Coming before new mid rest (drop place units) now → Coming before new mid (c ∷ cs) (get_or units place 0 ∷ drop (place + 1) units) now
+next_unit before new mid c cs rest units now place same coming =
+    let own = subst (λ l. Coming before new mid l (drop place units) now) same coming in
+    subst (λ us. Coming before new mid (c ∷ cs) us now) (drop_more units place 0 (unit_there before new mid c cs units now place own)) own
+
+pub enters_at : (before : Waiting) (new mid : Book) (c : Change) (cs rest : List Change) (units : List ℕ) (now : KeptBook) (place : ℕ) → rest ≡ c ∷ cs
+    → Coming before new mid rest (drop place units) now → MayEnter now c (get_or units place 0)
+enters_at before new mid c cs rest units now place same coming =
+    may_enter before new mid c cs (get_or units place 0) (drop (place + 1) units) now (next_unit before new mid c cs rest units now place same coming)
+
+pub entered_at : (before : Waiting) (new mid : Book) (c : Change) (cs rest : List Change) (units : List ℕ) (now then : KeptBook) (place : ℕ) → rest ≡ c ∷ cs
+    → Coming before new mid rest (drop place units) now → IsEntered c (get_or units place 0) now then
+    → (next : Book) × Coming before new next cs (drop (place + 1) units) then
+entered_at before new mid c cs rest units now then place same coming entered =
+    comes_more before new mid c cs (get_or units place 0) (drop (place + 1) units) now
+    (next_unit before new mid c cs rest units now place same coming) then entered

@@ -1,5 +1,5 @@
 -- What a book in order says of its parts.
-use Rattle.std.proofs.Common.{◌≡◌, ◌≤◌, ⊎_elim, ℕ, true, false, List, [], ◌∷◌, ◌++◌, Option, Some, None, refl, sym, ap, ◌∙◌, subst, arith}
+use Rattle.std.proofs.Common.{◌≡◌, ◌≤◌, ⊎_elim, ℕ, ◌*◌, Bool, true, false, List, [], ◌∷◌, ◌++◌, Option, Some, None, refl, sym, ap, ◌∙◌, subst, arith}
 use Rattle.std.specs.Prelude.{IfSome, bytes_eq, ◌&&◌, ◌==◌, nat_le}
 use Rattle.std.proofs.lemmas.Bool.{and_parts, leb-true}
 use Rattle.space_model.specs.Sizes.{segment_units}
@@ -10,7 +10,7 @@ use Rattle.space_model.proofs.Rooms.{fits_segment}
 use Rattle.file_model.specs.declared.block.Packed.{Packed}
 use Rattle.file_model.specs.declared.entry.Entry.{Entry}
 use Rattle.file_model.specs.declared.head.Head.{Head}
-use Rattle.file_model.specs.Header.{is_allowed}
+use Rattle.file_model.specs.Header.{units_per_segment, may_name, is_allowed}
 use Rattle.write_cache.specs.declared.pending.Pending.{Pending}
 use Rattle.write_cache.specs.Waiting.{state_of, HasDistinctKeys}
 use Rattle.buddy_space.specs.SpaceState.{SpaceState, IsParted}
@@ -26,14 +26,17 @@ use Rattle.flush_engine.specs.Meaning.{runs_of, book_of}
 use Rattle.flush_engine.specs.Placing.{block_of}
 use Rattle.flush_engine.specs.Steps.{MayBePlaced}
 
+fifth : (a b c d e f : Bool) → (a && (b && (c && (d && (e && f))))) ≡ true → e ≡ true
+fifth a b c d e f is =
+    (and_parts e f (and_parts d (e && f) (and_parts c (d && (e && f)) (and_parts b (c && (d && (e && f)))
+    (and_parts a (b && (c && (d && (e && f)))) is).1).1).1).1).0
+
 -- no header has more segments
 pub allowed_most : (h : Head) → is_allowed h ≡ true → h.max_segments ≤ 8000
 allowed_most h is =
-    let keypos = (and_parts _ _ is).1 in
-    let above = (and_parts _ _ keypos).1 in
-    let some = (and_parts _ _ above).1 in
-    let most = (and_parts _ _ some).1 in
-    leb-true h.max_segments 8000 (and_parts _ _ most).0
+    leb-true h.max_segments 8000
+    (fifth (h.version == 1) (nat_le 1 h.keypos) (nat_le h.keypos 65535) (nat_le 1 h.max_segments) (nat_le h.max_segments 8000)
+    (nat_le h.segments h.max_segments && may_name h.state (units_per_segment h * h.segments) h.index) is)
 
 pub parted_runs : (s : SpaceState) → IsParted s → IsBookParted segment_units (runs_of s)
 parted_runs s parted = record {

@@ -26,7 +26,7 @@ use Rattle.book_model.proofs.Alike.{alike_ledger, alike_formed, alike_self}
 use Rattle.flush_engine.specs.declared.book.Book.{Book as KeptBook}
 use Rattle.flush_engine.specs.declared.fault.PlanFault.{PlanFault}
 use Rattle.flush_engine.specs.declared.fault.PlanFault.TheVariants.{Full}
-use Rattle.flush_engine.specs.Meaning.{runs_of, book_of, IsAnswer, IsAsBefore}
+use Rattle.flush_engine.specs.Meaning.{runs_of, book_of, IsAnswer, IsAsBefore, IsPlanned}
 use Rattle.flush_engine.specs.Placing.{place_in, placed_run, Placing, block_of, giving_up, placed_at, placed_with, placed, Places, with_unit, then_placed, all_placed}
 use Rattle.flush_engine.specs.Ahead.{IsAhead, HaveUnits, Matches}
 use Rattle.flush_engine.specs.Coming.{new_entries, Coming}
@@ -207,41 +207,37 @@ comes_first old now changes p formed are s made = record {
 
 -- ---- what a plan says
 
--- the book is the planned one, and the answer says whether it is full
-pub record IsPlanned (old new : KeptBook) (changes : List Change) (result : Result Unit PlanFault) : Type 0 where
-  pub answer : IsAnswer (serve_all segment_units (book_of old) changes) result
-  pub alike : IsAlike (planned segment_units (book_of old) changes) (book_of new)
-  pub formed : IsWellFormed segment_units (book_of new)
-
-pub planned_ok : (old new : KeptBook) (changes : List Change) (p : Places) (s : IsServed old changes p) → IsAlike s.new (book_of new)
-    → IsWellFormed segment_units (book_of new) → IsPlanned old new changes (Ok tt)
-planned_ok old new changes p s alike formed = record {
+pub planned_ok : (old new : KeptBook) (changes : List Change) (p : Places) → IsWellFormed segment_units (book_of old) → (s : IsServed old changes p)
+    → IsAlike s.new (book_of new) → IsWellFormed segment_units (book_of new) → IsPlanned old new changes (Ok tt)
+planned_ok old new changes p formed s alike after = record {
+  before = formed;
   answer = rw s.served refl;
   alike = rw s.served alike;
-  formed = formed;
+  after = after;
 }
 
 pub planned_full : (old new : KeptBook) (changes : List Change) (exp : ℕ) → serve_all segment_units (book_of old) changes ≡ Err exp
     → IsWellFormed segment_units (book_of old) → IsAsBefore old new → IsPlanned old new changes (Err (Full exp))
-planned_full old new changes exp full formed as =
+planned_full old new changes exp full formed since =
     let grown_is : book_of new ≡ grown (book_of old) old.place.head.max_segments = λ i. record {
-      place = as.place i;
-      space = runs_of (as.space i);
-      directory = entries_in (by_slot (as.directory i));
-      cache = as.cache i;
+      place = since.place i;
+      space = runs_of (since.space i);
+      directory = entries_in (by_slot (since.directory i));
+      cache = since.cache i;
     } in
     record {
+      before = formed;
       answer = rw full refl;
       alike = rw full (subst (λ b. IsAlike (grown (book_of old) old.place.head.max_segments) b) (sym grown_is)
           (alike_self (grown (book_of old) old.place.head.max_segments)));
-      formed = subst (λ b. IsWellFormed segment_units b) (sym grown_is) (full_formed segment_units (book_of old) formed);
+      after = subst (λ b. IsWellFormed segment_units b) (sym grown_is) (full_formed segment_units (book_of old) formed);
     }
 
 units_apart : (b : Book) → IsWellFormed segment_units b → Pairs OtherUnit b.directory
 units_apart b formed = pairs_also MeetsNot OtherUnit b.directory (λ x y a c apart same. not_apart (entry_run x) (entry_run y) same apart) formed.order.entries
 
-module _ (old new : KeptBook) (changes : List Change) (result : Result Unit PlanFault) (formed : IsWellFormed segment_units (book_of old))
-    (are : AreChanges (book_of old) changes) (plan : IsPlanned old new changes result) where
+module _ (old new : KeptBook) (changes : List Change) (result : Result Unit PlanFault) (are : AreChanges (book_of old) changes)
+    (plan : IsPlanned old new changes result) where
   answer_by : (standing : List Standing) (o : Result Book ℕ) (l : Result Ledger ℕ) → ledger_result standing o ≡ l → IsAnswer o result → IsAnswer l result
   answer_by standing (Ok b) l is answer = subst (λ x. IsAnswer x result) is answer
   answer_by standing (Err exp) l is answer = subst (λ x. IsAnswer x result) is answer
@@ -249,15 +245,15 @@ module _ (old new : KeptBook) (changes : List Change) (result : Result Unit Plan
   pub ledger_answered : (standing : List Standing) → AreStanding standing (book_of old)
       → IsAnswer (serve_all_of_ledger segment_units (ledger_of standing (book_of old)) (touches_of changes)) result
   ledger_answered standing stands = answer_by standing (serve_all segment_units (book_of old) changes) _
-      (all_ledger place_laws ledger_laws segment_units standing changes (book_of old) (record { formed = formed; stands = stands }) are.each are.keys are.entries)
+      (all_ledger place_laws ledger_laws segment_units standing changes (book_of old) (record { formed = plan.before; stands = stands }) are.each are.keys are.entries)
       plan.answer
 
   pub ledger_moved : (standing : List Standing) → AreStanding standing (book_of old)
       → ledger_of standing (book_of new) ≡ after_command segment_units (ledger_of standing (book_of old)) (touches_of changes)
   ledger_moved standing stands =
       alike_ledger (planned segment_units (book_of old) changes) (book_of new) plan.alike standing
-      ∙ planned_ledger place_laws ledger_laws segment_units standing changes (book_of old) (record { formed = formed; stands = stands }) are
+      ∙ planned_ledger place_laws ledger_laws segment_units standing changes (book_of old) (record { formed = plan.before; stands = stands }) are
 
   pub of_its_file : (file : List ℕ) → IsOf file (book_of old) → AreChangesOf (view_of old.place.head file) (book_of old) changes → IsOf file (book_of new)
   of_its_file file of_old are_of = alike_of file (planned segment_units (book_of old) changes) (book_of new) plan.alike
-      (planned_of place_laws file changes (book_of old) of_old are_of) plan.formed.parted (units_apart (book_of new) plan.formed)
+      (planned_of place_laws file changes (book_of old) of_old are_of) plan.after.parted (units_apart (book_of new) plan.after)

@@ -10,7 +10,7 @@ ghost use Rattle.book_model.specs.Book.{Book as BookValue, IsInOrder, IsWellForm
 ghost use Rattle.book_model.specs.Planning.{AreChanges, serve_all, planned};
 ghost use Rattle.book_model.specs.LedgerOf.{AreStanding, ledger_of, touches_of};
 ghost use Rattle.book_model.specs.OfFile.{IsOf, AreChangesOf};
-ghost use Rattle.flush_engine.specs.Meaning.{book_of, IsAnswer, IsAsBefore};
+ghost use Rattle.flush_engine.specs.Meaning.{book_of, IsAnswer, IsAsBefore, IsPlanned};
 ghost use Rattle.flush_engine.specs.Coming.{new_entries, Coming};
 
 use crate::all::place_all;
@@ -76,6 +76,26 @@ fn enter_all(book: &mut Book, changes: Changes, units: &[u32]) -> Result<(), Mem
     Ok(())
 }
 
+/// Places the new blocks of all changes, and enters the changes then.
+fn place_and_enter(alloc: Global, book: &mut Book, changes: Changes) -> Result<(), PlanFault>
+    requires order { IsInOrder (book_of book.old) }
+    requires changes { AreChanges (book_of book.old) changes }
+    ensures planned { result ≢ Err PlanFault.Memory → IsPlanned book.old book.new changes result }
+    ensures full { (exp : ℕ) → IsErrOf result (PlanFault.Full exp) → IsAsBefore book.old book.new }
+    ensures slots { length book.new.directory ≡ length book.old.directory }
+{
+    // their clauses say what the parts of a book keep
+    let _segments = book.space.segments();
+    let _keys = book.cache.len();
+    let _slots = book.directory.slots();
+    let most = book.place.head.max_segments;
+    let units = place_all(alloc, &mut book.space, most, &book.cache, &changes)?;
+    make_room(alloc, book, &changes, &units)?;
+    let _placed = book.space.segments();
+    enter_all(book, changes, &units)?;
+    Ok(())
+}
+
 /// Plans the changes of a command: all that it takes, puts and gives back in memory, so that a flush takes no memory. `Full`
 /// where a new block has no place with all segments, which then are there, and nothing else has changed. After `Memory` the
 /// book is given up.
@@ -94,13 +114,5 @@ pub fn plan(alloc: Global, book: &mut Book, changes: Changes) -> Result<(), Plan
     ensures of_file { result ≢ Err PlanFault.Memory → (file : List ℕ) → IsOf file (book_of book.old)
         → AreChangesOf (view_of book.old.place.head file) (book_of book.old) changes → IsOf file (book_of book.new) }
 {
-    // their clauses say what the parts of a book keep
-    let _segments = book.space.segments();
-    let _keys = book.cache.len();
-    let _slots = book.directory.slots();
-    let most = book.place.head.max_segments;
-    let units = place_all(alloc, &mut book.space, most, &book.cache, &changes)?;
-    make_room(alloc, book, &changes, &units)?;
-    enter_all(book, changes, &units)?;
-    Ok(())
+    place_and_enter(alloc, book, changes)
 }
