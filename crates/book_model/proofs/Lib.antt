@@ -21,3 +21,5 @@ pub mod Settled
 pub mod Closed
 pub mod NewObjects
 pub mod FlushedLedger
+pub mod Prepared
+pub mod Stopping

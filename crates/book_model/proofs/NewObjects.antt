@@ -18,12 +18,12 @@ use Rattle.file_model.specs.View.{Units, view_of, units_in}
 use Rattle.file_model.specs.Taken.{taken, entry_of}
 use Rattle.file_model.specs.Gates.{StandsOpen, is_among}
 use Rattle.file_model.specs.BodyWrites.{Body, IsPacked}
-use Rattle.file_model.specs.Flush.{IsFlushed, without_olds, flushed, table_in}
+use Rattle.file_model.specs.Flush.{IsFlushed, flushed, table_in}
 use Rattle.write_cache.specs.Waiting.{state_of}
 use Rattle.book_model.specs.Book.{Book, olds_of}
 use Rattle.book_model.specs.Planning.{IsBlockFor}
 use Rattle.book_model.specs.OfFile.{IsOf}
-use Rattle.book_model.specs.Flushing.{body_of, bodies_of, old_units, HaveNew}
+use Rattle.book_model.specs.Flushing.{body_of, bodies_of, old_units, flushed_file, table_with_head, HaveNew}
 use Rattle.book_model.specs.Below.{BlockLaws, FlushLaws, WriteLaws}
 use Rattle.book_model.proofs.Members.{filter_map_in, in_filter_map, any_passes, passes_any}
 use Rattle.book_model.proofs.Waits.{Touched, other_key, one_of_key, none_in}
@@ -43,9 +43,6 @@ module _ (blocks : BlockLaws) (known : FlushLaws) (laws : WriteLaws) (file : Lis
 
   abbrev bodies : List Body
   bodies = bodies_of b.cache
-
-  abbrev done : List ℕ
-  done = without_olds n bodies (old_units b.cache) file
 
   after : IsFlushed n h bodies (old_units b.cache) file
   after = laws.flushed n h bodies (old_units b.cache) file (omega arith) (flushable blocks known file b of grown)
@@ -141,5 +138,5 @@ module _ (blocks : BlockLaws) (known : FlushLaws) (laws : WriteLaws) (file : Lis
       let w = goes_with u s stands among in
       other_key w.0.0 (spelled k) (none_in b.cache (spelled k) w.0 none w.1) (sym w.2 ∙ ap spelled same)))
 
-  pub have_new : HaveNew n b file done
+  pub have_new : HaveNew b (table_with_head h file) (table_with_head h (flushed_file b file))
   have_new = record { comes = comes; goes = goes; stays = stays }

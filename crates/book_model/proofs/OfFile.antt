@@ -135,7 +135,8 @@ old_of v w key o same old = record {
   every = λ t a key. old.every t (subst (λ ts. In t ts) same a) key;
 }
 
-block_of : (h g : Head) (key : List ℕ) (p : Packed) → g.kind ≡ h.kind → g.keypos ≡ h.keypos → IsBlockFor h key p → IsBlockFor g key p
+-- a block for a key is one with each header of the same kind and key position
+abbrev pub block_of : (h g : Head) (key : List ℕ) (p : Packed) → g.kind ≡ h.kind → g.keypos ≡ h.keypos → IsBlockFor h key p → IsBlockFor g key p
 block_of h g key p kind keypos f = record {
   objects = f.objects;
   term = f.term;

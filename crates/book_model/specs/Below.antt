@@ -1,7 +1,7 @@
 -- What the laws of the crates below say, as far as the laws of this crate rest on it.
 use Rattle.std.specs.Prelude.{◌≡◌, ◌≤◌, ◌<◌, ℕ, ◌+◌, ◌*◌, ◌%◌, ◌^◌, true, false, List, [], length, Some, None, Ok, bytes_eq, option_and_then}
 use Rattle.std.specs.List.{AllByRecursion}
-use Rattle.host_model.specs.Disk.{DiffersIn}
+use Rattle.host_model.specs.Disk.{Range, in_doubt, DiffersIn}
 use Rattle.host_model.specs.Writes.{ranges_of, with_writes}
 use Rattle.term_model.specs.TermValue.{TermValue}
 use Rattle.table_model.specs.Table.{objects_of}
@@ -13,18 +13,19 @@ use Rattle.space_model.specs.LedgerOrder.{IsFirstPlace}
 use Rattle.file_model.specs.declared.block.Packed.{Packed}
 use Rattle.file_model.specs.declared.head.Head.{Head}
 use Rattle.file_model.specs.declared.head.Located.{Located}
-use Rattle.file_model.specs.Layout.{page_size, page_of, segment_end, whole_segments, gate_at, open_byte, closed_byte, is_open_at}
+use Rattle.file_model.specs.declared.head.FileState.TheVariants.{Dirty}
+use Rattle.file_model.specs.Layout.{page_size, page_of, segment_at, segment_end, whole_segments, gate_at, open_byte, closed_byte, is_open_at}
 use Rattle.file_model.specs.LayoutLaws.{EndsInSegment}
-use Rattle.file_model.specs.Header.{units_per_segment, current_copy, head_of, located, segments_of}
+use Rattle.file_model.specs.Header.{units_per_segment, current_copy, head_of, located, segments_in, segments_of}
 use Rattle.file_model.specs.Block.{Block, one_key}
 use Rattle.file_model.specs.View.{Units, units_in, view}
-use Rattle.file_model.specs.Fit.{has_no_rejects}
+use Rattle.file_model.specs.Fit.{has_no_rejects, is_sound, IsFit}
 use Rattle.file_model.specs.Gates.{Gates, AreRead, StandsOpen, NoneMeet, OpenAtTaken, table_with, opened, closed}
 use Rattle.file_model.specs.Images.{ImagesAgree}
 use Rattle.file_model.specs.GateWrites.{gate_writes, AreWhole, OnlyGatesDiffer}
 use Rattle.file_model.specs.Free.{IsFreeIn}
 use Rattle.file_model.specs.BodyWrites.{Body, body_writes, HasRoom, MeetsNone, RunsApart, Pairs as BodyPairs, MayWrite, IsPacked, StandsPacked}
-use Rattle.file_model.specs.Flush.{IsFlushable, IsFlushed}
+use Rattle.file_model.specs.Flush.{IsFlushable, news, with_bodies, with_news, IsBetween, IsFlushed}
 use Rattle.file_model.specs.Packing.{payload_of, MayPack, IsBlockOf}
 use Rattle.write_cache.specs.declared.pending.Pending.{Pending}
 use Rattle.write_cache.specs.PendingState.{in_ledger}
@@ -94,3 +95,20 @@ pub record WriteLaws : Type 0 where
       → IsFlushed per_segment h bodies olds old
   pub no_block : (h : Head) (units : Units) (gates : Gates) (k : TermValue) → AreRead h units → NoneMeet gates units
       → ((u : ℕ) (b : Block) → StandsOpen gates units u b → b.key ≡ k → ⊥) → objects_of (table_with h units gates) k ≡ []
+
+-- what a stop within a flush leaves
+pub record StopLaws : Type 0 where
+  pub fit : (h : Head) (image : List ℕ) → head_of image ≡ Ok h → IsFit image
+  pub dirty : (h : Head) (image : List ℕ) → h.state ≡ Dirty → is_sound h image ≡ true
+  pub unseen : (per_segment : ℕ) (h : Head) (ranges : List Range) (old new : List ℕ) → 0 < per_segment → DiffersIn ranges old new
+      → segments_in per_segment h new ≡ segments_in per_segment h old
+      → ((k : ℕ) → page_size ≤ k → k < segment_at per_segment (segments_in per_segment h old) → in_doubt ranges k ≡ false)
+      → view h (units_in per_segment h new) ≡ view h (units_in per_segment h old)
+  pub bodies : (per_segment : ℕ) (h : Head) (bodies : List Body) (olds old : List ℕ) → 0 < per_segment → IsFlushable per_segment h bodies olds old
+      → (image : List ℕ) → DiffersIn (ranges_of (body_writes per_segment bodies)) old image → IsBetween per_segment h bodies olds old image
+  pub opening : (per_segment : ℕ) (h : Head) (bodies : List Body) (olds old : List ℕ) → 0 < per_segment → IsFlushable per_segment h bodies olds old
+      → (image : List ℕ) → DiffersIn (ranges_of (gate_writes per_segment open_byte (news bodies))) (with_bodies per_segment bodies old) image
+      → IsBetween per_segment h bodies olds old image
+  pub closing : (per_segment : ℕ) (h : Head) (bodies : List Body) (olds old : List ℕ) → 0 < per_segment → IsFlushable per_segment h bodies olds old
+      → (image : List ℕ) → DiffersIn (ranges_of (gate_writes per_segment closed_byte olds)) (with_news per_segment bodies old) image
+      → IsBetween per_segment h bodies olds old image

@@ -6,6 +6,7 @@ pub mod Planning
 pub mod LedgerOf
 pub mod OfFile
 pub mod Flushing
+pub mod Stopped
 pub mod Below
 -- ---- what worked rows look into
 pub mod Scripts

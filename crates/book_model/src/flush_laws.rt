@@ -4,11 +4,11 @@ ghost use Rattle.space_model.specs.Apart.{SameMembers};
 ghost use Rattle.space_model.specs.Ledger.{Standing, flush};
 ghost use Rattle.file_model.specs.Header.{units_per_segment};
 ghost use Rattle.file_model.specs.View.{view_of};
-ghost use Rattle.file_model.specs.Flush.{IsFlushable, without_olds};
+ghost use Rattle.file_model.specs.Flush.{IsFlushable};
 ghost use Rattle.book_model.specs.Book.{Book};
 ghost use Rattle.book_model.specs.LedgerOf.{ledger_of};
 ghost use Rattle.book_model.specs.OfFile.{IsOf, standing_of};
-ghost use Rattle.book_model.specs.Flushing.{bodies_of, old_units, settled, HaveNew};
+ghost use Rattle.book_model.specs.Flushing.{bodies_of, old_units, settled, flushed_file, table_with_head, HaveNew};
 
 use crate::below::{blocks_below, new_blocks_below, writes_below};
 
@@ -24,7 +24,7 @@ pub fn a_book_of_a_file_may_be_flushed()
 /// When all is written the book, with nothing that waits, is that of the file as it is then.
 pub fn after_a_flush_the_book_is_that_of_the_new_file()
     ensures { (file : List ℕ) (b : Book) → IsOf file b → b.place.head.segments ≡ b.space.segments
-        → IsOf (without_olds (units_per_segment b.place.head) (bodies_of b.cache) (old_units b.cache) file) (settled b) }
+        → IsOf (flushed_file b file) (settled b) }
 {
     blocks_below();
     new_blocks_below();
@@ -35,8 +35,7 @@ pub fn after_a_flush_the_book_is_that_of_the_new_file()
 /// keys have what they had.
 pub fn after_a_flush_each_key_that_waited_has_its_new_objects()
     ensures { (file : List ℕ) (b : Book) → IsOf file b → b.place.head.segments ≡ b.space.segments
-        → HaveNew (units_per_segment b.place.head) b file
-        (without_olds (units_per_segment b.place.head) (bodies_of b.cache) (old_units b.cache) file) }
+        → HaveNew b (table_with_head b.place.head file) (table_with_head b.place.head (flushed_file b file)) }
 {
     blocks_below();
     new_blocks_below();
@@ -47,7 +46,7 @@ pub fn after_a_flush_each_key_that_waited_has_its_new_objects()
 pub fn after_a_flush_the_ledger_is_the_flushed_one()
     ensures standing { (file : List ℕ) (b : Book) → IsOf file b → b.place.head.segments ≡ b.space.segments
         → SameMembers (flush (ledger_of (standing_of (view_of b.place.head file)) b)).standing
-        (standing_of (view_of b.place.head (without_olds (units_per_segment b.place.head) (bodies_of b.cache) (old_units b.cache) file))) }
+        (standing_of (view_of b.place.head (flushed_file b file))) }
     ensures rest { (b : Book) (before standing : List Standing) → b.place.head.segments ≡ b.space.segments
         → record (flush (ledger_of before b)) { standing = standing } ≡ ledger_of standing (settled b) }
 {

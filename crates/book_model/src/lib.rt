@@ -12,3 +12,4 @@ pub mod flush_laws;
 pub mod ledger_laws;
 pub mod order_laws;
 pub mod rows;
+pub mod stop_laws;
