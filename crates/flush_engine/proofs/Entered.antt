@@ -1,5 +1,5 @@
 -- A change comes into the book that is kept in memory as the book that serves it has it.
-use Rattle.std.proofs.Common.{◌≡◌, ◌≢◌, ◌≤◌, ◌<◌, ◌⊎◌, inl, inr, ⊎_elim, ℕ, ◌+◌, ◌-◌, ◌*◌, ◌^◌, false, List, [], ◌∷◌, ◌++◌, length, drop, get_or, Option, Some, None, Result, Ok, Err, refl, sym, ap, ◌∙◌, subst, arith}
+use Rattle.std.proofs.Common.{◌≡◌, ◌≤◌, ◌<◌, inl, inr, ⊎_elim, ℕ, ◌+◌, ◌-◌, ◌*◌, ◌^◌, false, List, [], ◌∷◌, length, drop, get_or, Option, Some, None, Result, Ok, Err, refl, sym, ap, ◌∙◌, subst, arith}
 use Rattle.std.specs.Prelude.{IfSome, bytes_eq}
 use Rattle.std.proofs.lemmas.Nat.{mul-le, pow_pos}
 use Rattle.std.proofs.lemmas.Bool.{cases_lt}
@@ -7,9 +7,7 @@ use Rattle.std.proofs.lemmas.List.{drop_all, drop_more}
 use Rattle.space_model.specs.Sizes.{segment_units}
 use Rattle.space_model.specs.Runs.{Run}
 use Rattle.space_model.specs.Apart.{In, SameMembers, Pairs}
-use Rattle.file_model.specs.declared.block.Packed.{Packed}
 use Rattle.file_model.specs.declared.entry.Entry.{Entry}
-use Rattle.file_model.specs.declared.head.Located.{Located}
 use Rattle.write_cache.specs.declared.pending.Pending.{Pending}
 use Rattle.write_cache.specs.Waiting.{Waiting, state_of, with_state}
 use Rattle.write_cache.proofs.Order.{last_state}
@@ -17,20 +15,20 @@ use Rattle.slot_table.specs.BySlot.{BySlot, by_slot, entries_in, with_entry, Has
 use Rattle.slot_table.proofs.Entering.{in_added, added_old, added_new, in_removed, removed_other}
 use Rattle.slot_table.proofs.Keeping.{added_directory, removed_directory}
 use Rattle.slot_table.proofs.Tables.{length-by_slot}
-use Rattle.buddy_space.specs.SpaceState.{SpaceState, IsParted, deferring, held as space_held}
+use Rattle.buddy_space.specs.SpaceState.{SpaceState, IsParted, held as space_held}
 use Rattle.buddy_space.proofs.Parted.{parted_deferring}
 use Rattle.buddy_space.proofs.States.{held_after_deferring}
 use Rattle.book_model.specs.declared.change.Change.{Change}
 use Rattle.book_model.specs.Book.{Book, held as book_held, entry_run, MeetsNot, IsWellFormed}
-use Rattle.book_model.specs.Planning.{IsChange, without_entry, with_deferred, emptied, released, moved, serve, serve_all, after_served, OtherKey, OtherEntry, AreChanges}
+use Rattle.book_model.specs.Planning.{IsChange, without_entry, with_deferred, emptied, serve, serve_all, after_served}
 use Rattle.book_model.proofs.Members.{append_in, in_append, pairs_also, same_append, same_self, same_through}
 use Rattle.book_model.proofs.Waits.{flips, put_again}
 use Rattle.book_model.proofs.Runs.{not_apart, same_unit, entry_was, entry_left, entry_stays}
 use Rattle.book_model.proofs.Released.{leaves, entry_taken}
-use Rattle.book_model.proofs.Served.{Moves, Empties, serve_ways, serve_formed, same_book}
+use Rattle.book_model.proofs.Served.{Moves, Empties, serve_ways, serve_formed}
 use Rattle.book_model.proofs.Commands.{carries, same_place, all_kept}
 use Rattle.flush_engine.specs.declared.book.Book.{Book as KeptBook}
-use Rattle.flush_engine.specs.Ahead.{HasUnit, HaveUnits}
+use Rattle.flush_engine.specs.Ahead.{HaveUnits}
 use Rattle.flush_engine.specs.Entering.{left_runs, left_entries, next_entry, come_entries, in_front, next_state, MayEnter}
 use Rattle.flush_engine.specs.Coming.{new_entries, Coming}
 use Rattle.flush_engine.proofs.Few.{few_units}
@@ -213,6 +211,7 @@ module _ (before : Waiting) (new mid : Book) (c : Change) (cs : List Change) (un
       more_deferred (Some s) o runs a = a
       more_deferred None None runs a = a
       more_deferred None (Some e) runs a = append_in runs (entry_run e ∷ []) r (inl a)
+
       deferred_stays : (x : Book) (d : Change) → IsWellFormed segment_units x → IsChange x d → (y : Book) → serve segment_units x d ≡ Ok y
           → In r x.space.deferred → In r y.space.deferred
       deferred_stays x d formed may y is a =
@@ -289,25 +288,27 @@ module _ (before : Waiting) (new mid : Book) (c : Change) (cs : List Change) (un
   comes_more then e =
       let runs = subst (λ (s : SpaceState). Runs s) (sym (e.runs ∙ ap (λ s. left_runs s c.old now.space) now_earlier)) (runs_by earlier c.old refl refl) in
       let left = left_directory c.old in
-      let some : 1 ≤ length (left_entries c.old slots) = omega (arith, left.many) in
-      (new_mid, record {
-        formed = new_formed;
-        are = record { each = on_each; keys = coming.are.keys.1; entries = coming.are.entries.1 };
-        served = next.rest;
-        units_are = coming.units_are.1;
-        place = e.place ∙ coming.place ∙ sym (same_place place_laws segment_units mid c coming.formed can new_mid next.is);
-        segments = runs.segments ∙ coming.segments;
-        held = same_through (space_held then.space) (space_held now.space) (book_held new.space) runs.held coming.held;
-        deferred = subst (λ rs. SameMembers then.space.deferred rs) (sym served.deferred) runs.deferred;
-        parted = runs.parted;
-        spare = omega (arith, coming.spare, runs.spare);
-        directory = subst (λ es. SameMembers (entries_in (by_slot then.directory)) es) (sym served.directory)
-            (subst (λ b. SameMembers (entries_in b) (in_front (next_entry c.hash unit c.next) (without_entry c.old mid.directory))) (sym e.entries)
-            (come_same (next_entry c.hash unit c.next) (left_entries c.old slots) (without_entry c.old mid.directory) some (left_same c.old refl)));
-        slots = subst (λ b. IsDirectory b) (sym e.entries) (come_directory (next_entry c.hash unit c.next) (left_entries c.old slots) left lacks);
-        room = e.room (new_entries cs units) coming.room;
-        cache = e.state ∙ (λ i. with_state (coming.cache i) c.key (next_state c unit (state_of (coming.cache i) c.key))) ∙ sym served.cache;
-      })
+      let some : 1 ≤ length (left_entries c.old slots) = omega (arith, left.many) in (
+        new_mid,
+        record {
+          formed = new_formed;
+          are = record { each = on_each; keys = coming.are.keys.1; entries = coming.are.entries.1 };
+          served = next.rest;
+          units_are = coming.units_are.1;
+          place = e.place ∙ coming.place ∙ sym (same_place place_laws segment_units mid c coming.formed can new_mid next.is);
+          segments = runs.segments ∙ coming.segments;
+          held = same_through (space_held then.space) (space_held now.space) (book_held new.space) runs.held coming.held;
+          deferred = subst (λ rs. SameMembers then.space.deferred rs) (sym served.deferred) runs.deferred;
+          parted = runs.parted;
+          spare = omega (arith, coming.spare, runs.spare);
+          directory = subst (λ es. SameMembers (entries_in (by_slot then.directory)) es) (sym served.directory)
+              (subst (λ b. SameMembers (entries_in b) (in_front (next_entry c.hash unit c.next) (without_entry c.old mid.directory))) (sym e.entries)
+              (come_same (next_entry c.hash unit c.next) (left_entries c.old slots) (without_entry c.old mid.directory) some (left_same c.old refl)));
+          slots = subst (λ b. IsDirectory b) (sym e.entries) (come_directory (next_entry c.hash unit c.next) (left_entries c.old slots) left lacks);
+          room = e.room (new_entries cs units) coming.room;
+          cache = e.state ∙ (λ i. with_state (coming.cache i) c.key (next_state c unit (state_of (coming.cache i) c.key))) ∙ sym served.cache;
+        },
+      )
 
 -- ---- by the place of its unit
 

@@ -1,5 +1,5 @@
 -- How many entries a directory has at most: no two have the same unit.
-use Rattle.std.proofs.Common.{◌≡◌, ◌≤◌, ◌<◌, ⊎_elim, inl, inr, ℕ, zero, suc, ◌+◌, ◌==◌, Bool, true, List, [], ◌∷◌, length, filter, refl, sym, ap, ◌∙◌, arith}
+use Rattle.std.proofs.Common.{◌≡◌, ◌≤◌, ◌<◌, ⊎_elim, inl, ℕ, zero, suc, ◌+◌, ◌==◌, Bool, true, List, [], ◌∷◌, length, filter, refl, sym, ap, ◌∙◌, arith}
 use Rattle.std.specs.Prelude.{not}
 use Rattle.std.proofs.lemmas.Bool.{cases_Bool, both_ways, eqb-true, eq-eqb, not-true, not_from_false, false_from_ne_true, cases_eq}
 use Rattle.space_model.specs.Apart.{In, Pairs}
@@ -32,6 +32,7 @@ one_fewer n (e ∷ es) p = ⊎_elim
   where
     kept : (test : Entry → Bool) (x : Entry) (xs : List Entry) → test x ≡ true → length (filter test (x ∷ xs)) ≡ suc (length (filter test xs))
     kept test x xs is = rw is refl
+
     longer : (test : Entry → Bool) (x : Entry) (xs : List Entry) → length (filter test xs) ≤ length (filter test (x ∷ xs))
     longer test x xs = ⊎_elim (λ keep. rw keep (omega arith)) (λ drop. rw drop (omega arith)) (cases_Bool (test x))
 

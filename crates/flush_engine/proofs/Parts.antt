@@ -1,10 +1,9 @@
 -- What a book in order says of its parts.
-use Rattle.std.proofs.Common.{◌≡◌, ◌≤◌, ⊎_elim, ℕ, ◌*◌, Bool, true, false, List, [], ◌∷◌, ◌++◌, Option, Some, None, refl, sym, ap, ◌∙◌, subst, arith}
+use Rattle.std.proofs.Common.{◌≡◌, ◌≤◌, ⊎_elim, ℕ, ◌*◌, Bool, true, false, List, Option, Some, None, refl, sym, ap, subst}
 use Rattle.std.specs.Prelude.{IfSome, bytes_eq, ◌&&◌, ◌==◌, nat_le}
 use Rattle.std.proofs.lemmas.Bool.{and_parts, leb-true}
 use Rattle.space_model.specs.Sizes.{segment_units}
-use Rattle.space_model.specs.Runs.{Run}
-use Rattle.space_model.specs.Apart.{In, Pairs, Apart, IsRun}
+use Rattle.space_model.specs.Apart.{In, Pairs, Apart}
 use Rattle.space_model.proofs.Members.{in_front, in_behind, pairs_front, pairs_behind, pairs_cross}
 use Rattle.space_model.proofs.Rooms.{fits_segment}
 use Rattle.file_model.specs.declared.block.Packed.{Packed}
@@ -14,9 +13,9 @@ use Rattle.file_model.specs.Header.{units_per_segment, may_name, is_allowed}
 use Rattle.write_cache.specs.declared.pending.Pending.{Pending}
 use Rattle.write_cache.specs.Waiting.{state_of, HasDistinctKeys}
 use Rattle.buddy_space.specs.SpaceState.{SpaceState, IsParted}
-use Rattle.slot_table.specs.BySlot.{by_slot, entries_in, HasOtherUnit, IsDirectory}
+use Rattle.slot_table.specs.BySlot.{by_slot, entries_in, IsDirectory}
 use Rattle.book_model.specs.declared.change.Change.{Change}
-use Rattle.book_model.specs.Book.{Book, IsParted as IsBookParted, entry_run, pending_entry, pending_entries, OtherUnit, IsInOrder, IsWellFormed}
+use Rattle.book_model.specs.Book.{Book, IsParted as IsBookParted, entry_run, pending_entry, OtherUnit, IsInOrder, IsWellFormed}
 use Rattle.book_model.specs.Planning.{IsBlockFor, IsChange, OtherKey, AreChanges}
 use Rattle.book_model.proofs.Members.{filter_map_in, filter_map_pairs, Through, two_of, pairs_also}
 use Rattle.book_model.proofs.Waits.{Touched, found_in, other_key}

@@ -1,8 +1,7 @@
 -- The start of the entering of changes, its end, and what a plan says then.
-use Rattle.std.proofs.Common.{◌≡◌, ◌≤◌, inl, inr, ⊎_elim, ℕ, List, [], ◌∷◌, length, Option, Some, None, Result, Ok, Err, refl, sym, ap, ◌∙◌, subst, arith}
+use Rattle.std.proofs.Common.{◌≡◌, ◌≤◌, inl, ⊎_elim, ℕ, List, [], ◌∷◌, length, Option, Some, None, Result, Ok, Err, refl, sym, ap, ◌∙◌, subst}
 use Rattle.space_model.specs.Sizes.{segment_units}
-use Rattle.space_model.specs.Runs.{Run}
-use Rattle.space_model.specs.Apart.{In, SameMembers, Pairs}
+use Rattle.space_model.specs.Apart.{SameMembers, Pairs}
 use Rattle.space_model.specs.Ledger.{Standing, Ledger, Placed, serve_all as serve_all_of_ledger, after_command}
 use Rattle.file_model.specs.declared.block.Packed.{Packed}
 use Rattle.file_model.specs.declared.entry.Entry.{Entry}

@@ -13,7 +13,7 @@ use write_cache::WriteCache;
 /// Places the new blocks of the changes, in order, and gives the first unit of each, 0 for a change that has none. `cache` has
 /// the keys that wait before the command. `Full` where one has no place with all segments, which then are there, and nothing
 /// else has changed.
-pub fn place_all(
+pub(crate) fn place_all(
     alloc: Global,
     space: &mut Space,
     most: u32,

@@ -1,6 +1,6 @@
 //! What is known of a table's file in memory.
-use file_model::Located;
 use buddy_space::Space;
+use file_model::Located;
 use slot_table::Directory;
 use write_cache::WriteCache;
 

@@ -26,7 +26,12 @@ fn stands_for(earlier: Option<&Pending>, old: Option<Entry>) -> Option<Entry>
 }
 
 /// Takes the old block of a key out of the directory, and defers one that stands in the file.
-fn leave(space: &mut Space, directory: &mut Directory, earlier: Option<&Pending>, old: Option<Entry>)
+fn leave(
+    space: &mut Space,
+    directory: &mut Directory,
+    earlier: Option<&Pending>,
+    old: Option<Entry>,
+)
     requires taken { option_copied earlier ≡ None → IfSome old (λ e. In (entry_run e) space.old.taken) }
     requires spare { 1 ≤ space.old.spare }
     ensures runs { space.new ≡ left_runs (option_copied earlier.entry) old space.old }

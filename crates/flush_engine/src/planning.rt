@@ -41,12 +41,7 @@ fn new_entries(alloc: Global, changes: &Changes, units: &[u32]) -> Result<Vec<En
 }
 
 /// Makes room for the new entries of changes and for the runs that they defer. After `Memory` the book says what it said.
-fn make_room(
-    alloc: Global,
-    book: &mut Book,
-    changes: &Changes,
-    units: &[u32],
-) -> Result<(), Memory>
+fn make_room(alloc: Global, book: &mut Book, changes: &Changes, units: &[u32]) -> Result<(), Memory>
     requires { length units.now ≡ length changes.now }
     ensures place { book.new.place ≡ book.old.place }
     ensures cache { book.new.cache ≡ book.old.cache }

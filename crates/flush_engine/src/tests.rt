@@ -1,36 +1,12 @@
 // What no clause says: that calls succeed where memory is there.
-use crate::placing::place_change;
-use crate::{Changes, PlanFault, place_all};
+use crate::{Book, Changes, plan};
 use book_model::Change;
 use buddy_space::Space;
-use dets_term::ByteList;
-use file_model::Packed;
+use dets_term::{ByteList, Kind};
+use file_model::{FileState, Head, Located};
+use slot_table::Directory;
 use std::test::Fail;
 use write_cache::WriteCache;
-
-#[test]
-fn blocks_are_placed_until_all_segments_are_full(rt: HostRuntime) -> Result<(), Fail> {
-    let mut space = Space::new(rt.alloc());
-    let large = Packed {
-        exp: 12,
-        count: 1,
-        block: ByteList::new(rt.alloc()),
-    };
-    let small = Packed {
-        exp: 0,
-        count: 1,
-        block: ByteList::new(rt.alloc()),
-    };
-    assert_eq!(rt; place_change(&mut space, 1, None, Some(&large)), Ok(0));
-    assert_eq!(rt;
-        place_change(&mut space, 1, None, Some(&small)),
-        Err(PlanFault::Full(0))
-    );
-    assert_eq!(rt; place_change(&mut space, 2, None, Some(&small)), Ok(4096));
-    assert_eq!(rt; place_change(&mut space, 2, None, None), Ok(0));
-    assert_eq!(rt; space.segments(), 2);
-    Ok(())
-}
 
 #[test]
 fn a_change_is_pushed(rt: HostRuntime) -> Result<(), Fail> {
@@ -48,14 +24,29 @@ fn a_change_is_pushed(rt: HostRuntime) -> Result<(), Fail> {
 }
 
 #[test]
-fn no_change_needs_no_place(rt: HostRuntime) -> Result<(), Fail> {
-    let mut space = Space::new(rt.alloc());
-    let cache = WriteCache::new(rt.alloc());
-    let changes = Changes::new(rt.alloc());
-    let Ok(units) = place_all(rt.alloc(), &mut space, 1, &cache, &changes) else {
-        panic!(rt; "no places were given")
+fn a_command_without_changes_is_planned(rt: HostRuntime) -> Result<(), Fail> {
+    let head = Head {
+        version: 1,
+        state: FileState::Closed,
+        kind: Kind::Set,
+        keypos: 1,
+        segments: 0,
+        max_segments: 1,
+        index: None,
     };
-    assert!(rt; units.is_empty());
-    assert_eq!(rt; space.segments(), 0);
+    let mut book = Book {
+        place: Located {
+            head,
+            second: false,
+            other_gate: false,
+            whole: 0,
+        },
+        space: Space::new(rt.alloc()),
+        directory: Directory::new(rt.alloc(), 256)?,
+        cache: WriteCache::new(rt.alloc()),
+    };
+    let answer = plan(rt.alloc(), &mut book, Changes::new(rt.alloc()));
+    assert!(rt; answer.is_ok());
+    assert_eq!(rt; book.space.segments(), 0);
     Ok(())
 }

@@ -1,11 +1,9 @@
 use Rattle.std.proofs.Common.{◌≡◌, ◌+◌, ℕ, List, [], ◌∙◌, sym, subst}
 use Rattle.std.proofs.lemmas.List.{nil_from_length}
-use Rattle.space_model.specs.Sizes.{segment_units}
 use Rattle.write_cache.specs.Waiting.{Waiting}
 use Rattle.book_model.specs.declared.change.Change.{Change}
-use Rattle.book_model.specs.Book.{Book, IsWellFormed, IsAlike}
+use Rattle.book_model.specs.Book.{Book}
 use Rattle.flush_engine.specs.declared.book.Book.{Book as KeptBook}
-use Rattle.flush_engine.specs.Meaning.{book_of}
 use Rattle.flush_engine.specs.Coming.{Coming}
 use Rattle.flush_engine.proofs.Entered.{IsEntered, enters_at, entered_at}
 use Rattle.flush_engine.proofs.Planned.{comes_to, comes_formed}

@@ -1,5 +1,5 @@
 -- The changes so far came into the book.
-use Rattle.std.proofs.Common.{◌≡◌, ◌≤◌, ◌+◌, ℕ, List, length, drop}
+use Rattle.std.proofs.Common.{◌≡◌, ℕ, List, length, drop}
 use Rattle.write_cache.specs.Waiting.{Waiting}
 use Rattle.book_model.specs.declared.change.Change.{Change}
 use Rattle.book_model.specs.Book.{Book}

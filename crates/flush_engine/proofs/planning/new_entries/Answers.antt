@@ -1,4 +1,4 @@
-use Rattle.std.proofs.Common.{◌≡◌, ◌<◌, ◌+◌, ℕ, List, [], ◌∷◌, ◌++◌, length, drop, get_or, Option, Some, None, ◌∙◌, sym, ap, subst, arith, Vec, append-nil, append_assoc}
+use Rattle.std.proofs.Common.{◌≡◌, ◌<◌, ◌+◌, ℕ, List, [], ◌∷◌, ◌++◌, length, drop, get_or, Option, Some, None, ◌∙◌, sym, ap, arith, Vec, append-nil, append_assoc}
 use Rattle.std.proofs.lemmas.List.{drop_more}
 use Rattle.file_model.specs.declared.block.Packed.{Packed}
 use Rattle.file_model.specs.declared.entry.Entry.{Entry}
@@ -50,7 +50,7 @@ loop-change-preserved c =
     let go = goes_on c.args.changes.now c.as_slice-change-items.result.now c.args.units.now c.loop-change.change-index c.loop-change.place
     c.loop-change.entries.items c.match-change.entries.items c.change-item.result c.loop-change.invariant c.loop-change-test.true c.change-item.is c.requires in
     elim c.match-change.branch [
-      in-Some+in_ok-push w ↦ go (some_made c.loop-change.entries.items c.match-change.entries.items c.change-item.result _ w.in-Some.packed w.in-Some.is
+      | in-Some+in_ok-push w ↦ go (some_made c.loop-change.entries.items c.match-change.entries.items c.change-item.result _ w.in-Some.packed w.in-Some.is
           (ap (λ (v : Vec Entry Global). v.items) w.entries-is ∙ w.in_ok-push.ensures.items))
       | in_default w ↦ go (none_made c.loop-change.entries.items c.match-change.entries.items c.change-item.result _ w.in_default.is
           (ap (λ (v : Vec Entry Global). v.items) w.entries-is))

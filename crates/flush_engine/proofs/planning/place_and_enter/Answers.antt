@@ -1,4 +1,4 @@
-use Rattle.std.proofs.Common.{◌≡◌, ◌≢◌, ◌≤◌, ℕ, suc, List, [], ◌∷◌, length, max, Result, Err, ◌∙◌, ap, sym, subst, refl, arith}
+use Rattle.std.proofs.Common.{◌≡◌, ◌≢◌, ℕ, suc, List, [], ◌∷◌, length, max, Result, Err, ◌∙◌, ap, sym, subst, refl, arith}
 use Rattle.std.proofs.lemmas.Result.{err_from_is_err_and}
 use Rattle.space_model.specs.Sizes.{segment_units}
 use Rattle.write_cache.specs.Waiting.{Waiting}
@@ -15,7 +15,7 @@ use Rattle.flush_engine.specs.Placing.{in_segments, Places, all_placed}
 use Rattle.flush_engine.specs.Ahead.{HaveUnits}
 use Rattle.flush_engine.specs.Coming.{new_entries, Coming}
 use Rattle.flush_engine.proofs.Parts.{well_formed, may_be_placed}
-use Rattle.flush_engine.proofs.Planned.{IsServed, is_served, is_full, HasRoomMade, comes_first, planned_ok, planned_full}
+use Rattle.flush_engine.proofs.Planned.{is_served, is_full, HasRoomMade, comes_first, planned_ok, planned_full}
 use Rattle.flush_engine.proofs.planning.place_and_enter.Goals as goal
 
 pub place_all-requires-clause-changes : goal.place_all-requires-clause-changes
@@ -101,8 +101,7 @@ enter_all-requires c =
     c.make_room.ensures.entries c.in_ok-make_room.ensures.spare
     (subst (λ us. HasRoomFor c.make_room.new.book.directory (new_entries c.args.changes us)) c.deref.ensures.value c.in_ok-make_room.ensures.room)
     c.segments-placed.ensures.parted c.slots-slots.ensures.directory in
-    let coming = comes_first c.args.book.now c.make_room.new.book c.args.changes (places c.place_all.new.space c.in_ok-units.units.items) formed c.requires.changes s made in
-    (
+    let coming = comes_first c.args.book.now c.make_room.new.book c.args.changes (places c.place_all.new.space c.in_ok-units.units.items) formed c.requires.changes s made in (
       c.args.book.now.cache,
       s.new,
       book_of c.args.book.now,
