@@ -23,7 +23,7 @@ pub use change::change_header;
 pub use fault::HeadFault;
 pub use file_model::{FileState, Head, Located, Packed, Unreadable};
 pub use making::make;
-pub use places::{CLOSED, OPEN, gate_at};
+pub use places::{CLOSED, OPEN, gate_at, unit_at};
 pub use reading::read_header;
 pub use segment::zero_segment;
 pub use units::{

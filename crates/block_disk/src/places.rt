@@ -47,7 +47,8 @@ pub(crate) fn units_at(segment: u32) -> u64
     segment_at(segment) + u64::from(UNITS)
 }
 
-pub(crate) fn unit_at(unit: u32) -> u64
+/// Where a unit begins.
+pub fn unit_at(unit: u32) -> u64
     ensures { result ≡ unit_at segment_units unit }
 {
     units_at(unit / UNITS) + 64 * u64::from(unit % UNITS)

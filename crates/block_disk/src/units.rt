@@ -41,10 +41,9 @@ pub fn close_gate<H: Host>(host: &mut H, unit: u32) -> Result<(), DiskFailed>
     put_at(host, gate_at(unit), &[CLOSED])
 }
 
-/// Writes a block, head and payload, from a unit on. It ends in the unit's segment, which is whole in the file.
+/// Writes a block, head and payload, from a unit on, whose segment is whole in the file. It may end behind the segment.
 pub fn write_body<H: Host>(host: &mut H, unit: u32, block: &[u8]) -> Result<(), DiskFailed>
-    requires room { unit_at segment_units unit + length block.now ≤ segment_end segment_units unit }
-    requires whole { WhereTold (H.shows host.old).file (λ f. segment_end segment_units unit ≤ length f) }
+    requires { WhereTold (H.shows host.old).file (λ f. segment_end segment_units unit ≤ length f) }
     ensures written { OnOk result ((H.shows host.new).file
         ≡ option_map (written_at (unit_at segment_units unit) block.now) (H.shows host.old).file) }
     ensures tearing { Tearing (range (unit_at segment_units unit) (length block.now) ∷ []) (H.shows host.old) (H.shows host.new) }
