@@ -9,3 +9,4 @@ pub mod Parts
 pub mod Few
 pub mod Entered
 pub mod Planned
+pub mod Committed

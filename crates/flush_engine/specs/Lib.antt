@@ -5,3 +5,5 @@ pub mod Steps
 pub mod Ahead
 pub mod Entering
 pub mod Coming
+pub mod Below
+pub mod Flushed
