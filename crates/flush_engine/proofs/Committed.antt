@@ -1,5 +1,5 @@
 -- What the two parts of a flush, one after the other, leave of the file of a book.
-use Rattle.std.proofs.Common.{◌≡◌, ℕ, List, Option, Some, None, option_map, refl, sym, ap, ◌∙◌, subst}
+use Rattle.std.proofs.Common.{◌≡◌, ℕ, List, Option, Some, None, option_map, refl, ap, ◌∙◌, subst}
 use Rattle.host_model.specs.Disk.{WhereTold, Changes}
 use Rattle.host_model.specs.Host.{Shown}
 use Rattle.host_model.specs.Images.{LeavesImages, images_weaker, images_then}
@@ -49,25 +49,31 @@ known_at P R (Some x) mid so c = λ y is.
 
 -- ---- the two parts
 
-module _ (laws : StopLaws) (b : Book) (place : Located) where
+module _ (laws : StopLaws) (b : Book) (place : Located) (segments : ℕ) (all : segments ≡ b.space.segments) where
   abbrev Prepared : List ℕ → List ℕ → Type 0
-  Prepared = IsPrepared b.place.head b.space.segments place
+  Prepared = IsPrepared b.place.head segments place
 
   abbrev Preparing : List ℕ → List ℕ → Type 0
-  Preparing = IsPreparing b.place.head b.space.segments
+  Preparing = IsPreparing b.place.head segments
 
   abbrev Writing : List ℕ → List ℕ → Type 0
   Writing = IsWriting segment_units (bodies_of b.cache) (old_units b.cache)
 
+  is_prepared : (x y : List ℕ) → Prepared x y → IsPrepared b.place.head b.space.segments place x y
+  is_prepared x y p = subst (λ n. IsPrepared b.place.head n place x y) all p
+
+  stops_preparing : (x z : List ℕ) → IsOf x b → Preparing x z → IsStopped b x z
+  stops_preparing x z of p = laws.preparing x z b of (subst (λ n. IsPreparing b.place.head n x z) all p)
+
   ready : (x y : List ℕ) → IsOf x b → Prepared x y → IsReady y (placed_at b place)
   ready x y of p = record {
-    of_file = laws.prepared x y b place of p;
-    segments = ap (λ (h : Head). h.segments) p.head;
+    of_file = laws.prepared x y b place of (is_prepared x y p);
+    segments = ap (λ (h : Head). h.segments) p.head ∙ all;
     dirty = ap (λ (h : Head). h.state) p.head;
   }
 
   stops_writing : (x y z : List ℕ) → IsOf x b → Prepared x y → Writing y z → IsStopped b x z
-  stops_writing x y z of p w = laws.stopped_behind x y z b place of p (laws.writing y z (placed_at b place) (ready x y of p) w)
+  stops_writing x y z of p w = laws.stopped_behind x y z b place of (is_prepared x y p) (laws.writing y z (placed_at b place) (ready x y of p) w)
 
   all_written : (x y : List ℕ) → IsOf x b → Prepared x y
       → IsWritten b place x (without_olds segment_units (bodies_of b.cache) (old_units b.cache) y)
@@ -75,7 +81,7 @@ module _ (laws : StopLaws) (b : Book) (place : Located) where
       let able = ready x y of p in
       record {
         of_file = laws.of_flushed y (placed_at b place) able;
-        objects = laws.new_behind x y _ b place of p (laws.new y (placed_at b place) able);
+        objects = laws.new_behind x y _ b place of (is_prepared x y p) (laws.new y (placed_at b place) able);
       }
 
   module _ (old mid : Option (List ℕ)) (of : WhereTold old (λ x. IsOf x b)) where
@@ -88,7 +94,7 @@ module _ (laws : StopLaws) (b : Book) (place : Located) where
         (λ x y e p. laws.old_whole y (placed_at b place) (ready x y (of x e) p)) c
 
     pub stopped_at : Changes Preparing old mid → Changes (IsStopped b) old mid
-    stopped_at c = changes_at Preparing (IsStopped b) old mid (λ x z e p. laws.preparing x z b (of x e) p) c
+    stopped_at c = changes_at Preparing (IsStopped b) old mid (λ x z e p. stops_preparing x z (of x e) p) c
 
     pub stopped_behind : (new : Option (List ℕ)) → Changes Prepared old mid → Changes Writing mid new → Changes (IsStopped b) old new
     stopped_behind new p w = changes_behind Prepared Writing (IsStopped b) old mid new (λ x y z e q v. stops_writing x y z (of x e) q v) p w
@@ -99,10 +105,10 @@ module _ (laws : StopLaws) (b : Book) (place : Located) where
         (λ x y e q. all_written x y (of x e) q) p is
 
   pub images_prepared : (old new : Shown) (x : List ℕ) → IsOf x b → LeavesImages old new (Preparing x) → LeavesImages old new (IsStopped b x)
-  images_prepared old new x of leaves = images_weaker (Preparing x) (IsStopped b x) old new (λ z p. laws.preparing x z b of p) leaves
+  images_prepared old new x of leaves = images_weaker (Preparing x) (IsStopped b x) old new (λ z p. stops_preparing x z of p) leaves
 
   pub images_written : (old mid new : Shown) (x : List ℕ) → old.file ≡ Some x → mid.said ≡ old.said → IsOf x b → Changes Prepared old.file mid.file
       → LeavesImages old mid (Preparing x) → WhereTold mid.file (λ y. LeavesImages mid new (Writing y)) → LeavesImages old new (IsStopped b x)
   images_written old mid new x told said of all leaves later =
-      images_then Preparing Prepared Writing (IsStopped b) old mid new x told said (λ z p. laws.preparing x z b of p)
+      images_then Preparing Prepared Writing (IsStopped b) old mid new x told said (λ z p. stops_preparing x z of p)
       (λ y z p w. stops_writing x y z of p w) all leaves later

@@ -10,3 +10,4 @@ pub mod Few
 pub mod Entered
 pub mod Planned
 pub mod Committed
+pub mod Finished

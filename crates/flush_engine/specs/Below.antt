@@ -33,7 +33,6 @@ pub record StopLaws : Type 0 where
   pub new_whole : (file : List ℕ) (b : Book) → IsReady file b → AreWhole segment_units (news (bodies_of b.cache)) file
   pub old_whole : (file : List ℕ) (b : Book) → IsReady file b → AreWhole segment_units (old_units b.cache) file
   pub writing : (old now : List ℕ) (b : Book) → IsReady old b → IsWriting segment_units (bodies_of b.cache) (old_units b.cache) old now → IsStopped b old now
-  pub flushed : (file : List ℕ) (b : Book) → IsReady file b → IsStopped b file (flushed_file b file)
   pub of_flushed : (file : List ℕ) (b : Book) → IsReady file b → IsOf (flushed_file b file) (settled b)
   pub new : (file : List ℕ) (b : Book) → IsReady file b
       → HaveNew b (table_with_head b.place.head file) (table_with_head b.place.head (flushed_file b file))

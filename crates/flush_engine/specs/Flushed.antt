@@ -1,5 +1,5 @@
 -- What a flush leaves of the file of a book. This project's own.
-use Rattle.std.specs.Prelude.{◌≡◌, ℕ, List}
+use Rattle.std.specs.Prelude.{ℕ, List}
 use Rattle.space_model.specs.Runs.{Run}
 use Rattle.space_model.specs.Apart.{In}
 use Rattle.file_model.specs.declared.head.Located.{Located}

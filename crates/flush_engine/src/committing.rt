@@ -84,7 +84,8 @@ pub fn commit<H: Host>(host: &mut H, book: &mut Book) -> Result<(), DiskFailed>
     ensures ok_faults { OnOk result ((H.shows host.new).disk_faults ≡ (H.shows host.old).disk_faults) }
 {
     what_a_flush_leaves();
-    if book.cache.len() == 0 && book.space.segments() == book.place.head.segments {
+    let segments = book.space.segments();
+    if book.cache.len() == 0 && segments == book.place.head.segments {
         return Ok(());
     }
     flush(host, book)?;

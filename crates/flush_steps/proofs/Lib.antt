@@ -1,0 +1,9 @@
+pub mod Placed
+pub mod Torn
+pub mod Begin
+pub mod Counted
+pub mod Zeroed
+pub mod Told
+pub mod Whole
+pub mod Ready
+pub mod Run
