@@ -133,14 +133,7 @@ module _ (places : List (Option Write)) (i : ℕ) (w : Write) (there : slice_get
       ok_faults = faults ∙ made.ok_faults;
     }
 
--- where a place has a write, the list is not empty
-pub some_there : (places : List (Option Write)) (i : ℕ) (w : Write) → slice_get places i ≡ Some (Some w) → some_of places ≡ [] → ⊥
-some_there [] i w e none = cc e
-some_there (None ∷ ps) zero w e none = cc e
-some_there (None ∷ ps) (suc i) w e none = some_there ps i w e none
-some_there (Some v ∷ ps) zero w e none = cc none
-some_there (Some v ∷ ps) (suc i) w e none = cc none
-
+-- where a place has a write, there is one at least
 pub some_one : (places : List (Option Write)) (i : ℕ) (w : Write) → slice_get places i ≡ Some (Some w) → 0 < length (some_of places)
 some_one [] i w e = absurd (cc e)
 some_one (None ∷ ps) zero w e = absurd (cc e)

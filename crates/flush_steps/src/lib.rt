@@ -1,9 +1,9 @@
 //! The steps by which a flush writes to a table's file, each a function of its own over any host.
 //!
 //! Stands on `host_model` for the calls on a disk and what a stop leaves, on `block_disk` for the parts of a file, on
-//! `write_cache` for what waits, and on the definitions of `file_model` and `book_model`. Each step begins with a settled host
-//! and ends with one sync, and says which bytes a stop may have torn meanwhile. No call takes memory, and none fails but
-//! where a call on the disk did.
+//! `write_cache` for what waits, and on the definitions of `file_model` and `book_model`. Each step begins and ends with a
+//! settled host, and says which bytes a stop may have torn meanwhile. No call takes memory, and none fails but where a call on
+//! the disk did.
 #![tactic(auto)]
 
 pub use bodies::write_bodies;

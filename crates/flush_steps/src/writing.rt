@@ -43,6 +43,7 @@ fn switch_gates<H: Host>(host: &mut H, cache: &WriteCache) -> Result<(), DiskFai
 /// Writes the blocks that wait, opens their gates, and closes those of the blocks that go: three steps, of which each is
 /// lasting before the next one begins. It makes no call where nothing waits. The segments of all these units are whole in the
 /// file. `DiskFailed` comes only where a call on the disk failed.
+#[tactic(auto, using(crate::proofs::Counted::bodies_at_most))]
 pub fn write_blocks<H: Host>(host: &mut H, cache: &WriteCache) -> Result<(), DiskFailed>
     requires settled { Settled (H.shows host.old) }
     requires new_whole { WhereTold (H.shows host.old).file (AreWhole segment_units (news (bodies_of cache.now))) }

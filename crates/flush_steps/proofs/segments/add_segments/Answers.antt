@@ -11,5 +11,5 @@ returns-clause-any_moment g c =
     let new = g.H.Host.shows c.sync.new.self in
     let e = c.sync.ensures in
     images_torn ranges old new (g.met.H.Host.coherent c.args.host.now) c.requires.settled
-    (tearing_synced ranges old (g.H.Host.shows c.zero_segments.new.host) new c.in_ok-zero_segments.ensures.tearing e.goes e.file e.said e.reads e.never_falls
+    (tearing_synced ranges old (g.H.Host.shows c.zero_segments.new.host) new c.zero_segments.ensures.tearing e.goes e.file e.said e.reads e.never_falls
     e.out_faults)

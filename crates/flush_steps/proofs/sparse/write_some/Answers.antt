@@ -1,9 +1,9 @@
-use Rattle.std.proofs.Common.{◌≡◌, ◌≤◌, ◌+◌, refl, length, sym, ◌∙◌, subst}
+use Rattle.std.proofs.Common.{◌≡◌, ◌≤◌, ◌+◌, refl, length, sym, ap, ◌∙◌, subst, arith}
 use Rattle.std.proofs.lemmas.Bool.{both_ways}
 use Rattle.host_model.specs.Tearing.{Tearing}
 use Rattle.host_model.specs.Writes.{Write, ranges_of}
 use Rattle.flush_steps.specs.Sparse.{BeginIn}
-use Rattle.flush_steps.proofs.Placed.{AreMade, none_made, passed, may_write, torn, torn_clock, made_more, some_there, some_one}
+use Rattle.flush_steps.proofs.Placed.{AreMade, none_made, passed, may_write, torn, torn_clock, made_more, some_one}
 use Rattle.flush_steps.proofs.sparse.write_some.Goals as goal
 use Rattle.flush_steps.proofs.sparse.write_some.Goals.{in-Some+in_ok-write_at, in_default}
 
@@ -43,8 +43,11 @@ returns-in_err-write_at-clause-clock g c =
 
 pub returns-in_err-write_at-clause-no_call : goal.returns-in_err-write_at-clause-no_call
 returns-in_err-write_at-clause-no_call g c none =
+    let places = g.W.SparseWrites.places c.args.writes.now in
     let w : Write = record { at = c.in-Some.at; bytes = c.in-Some.bytes.now } in
-    absurd {A = c.write_at.new.self ≡ c.args.host.now} (some_there (g.W.SparseWrites.places c.args.writes.now) c.loop-place.place w c.in-Some.ensures (sym (g.met.W.SparseWrites.gathered c.args.writes.now) ∙ none))
+    let one = some_one places c.loop-place.place w c.in-Some.ensures in
+    let length_is = ap length (sym (g.met.W.SparseWrites.gathered c.args.writes.now) ∙ none) in
+    absurd {A = c.write_at.new.self ≡ c.args.host.now} (omega (arith, one, length_is))
 
 pub loop-place-preserved : goal.loop-place-preserved
 loop-place-preserved g c =
