@@ -1,0 +1,28 @@
+//! Worked rows of books: the program answers each line of its input with one line.
+//!
+//! Stands on `flush_engine`. The stored input has rows of commands over a table's book, and the stored output the answers,
+//! line for line; they come from the definitions of `book_model`. A blank line and one that begins with `#` are copied, and
+//! begin a block, which has a book of its own. Any other line is a word and its operands.
+//!
+//!     book MOST          plan TOUCH ..          flush          known KEY ..
+//!
+//! TOUCH is `KEY:EXPONENT`, a new block of 2 to the power of so many units, or `KEY:-`, no object left. A KEY is an integer
+//! or an atom without a colon. `docs/CASES.md` says what each word answers. What is no line of this language is answered
+//! `bad line`.
+#![tactic(auto)]
+
+mod block_for;
+mod changing;
+mod fault;
+mod kept;
+mod lines;
+mod old;
+mod touch;
+
+use std::io;
+
+fn main(rt: HostRuntime) -> io::Result<()> {
+    let input = io::read_to_string(rt.alloc(), rt.reader())?;
+    let answers = lines::answers(rt.alloc(), &input)?;
+    rt.print(answers.as_str())
+}
