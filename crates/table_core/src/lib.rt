@@ -1,0 +1,15 @@
+//! A table over its file.
+//!
+//! Stands on `flush_engine` for the book of a file and its flush, and on `slot_table`, `buddy_space` and `write_cache`, which
+//! keep the parts of a book. So far `opened_book` gives the book of a file that was just scanned.
+#![tactic(auto)]
+
+pub use file_model::Located;
+pub use flush_engine::Book;
+pub use opening::opened_book;
+pub use slot_table::Entries;
+pub use std::alloc::AllocError as Memory;
+
+mod opening;
+#[cfg(test)]
+mod tests;
