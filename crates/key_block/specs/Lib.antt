@@ -1,3 +1,4 @@
 -- The definitions of this crate, one file for each idea.
 pub mod Refusal
 pub mod Unpacking
+pub mod Single

@@ -7,6 +7,7 @@ ghost use Rattle.file_model.specs.Packing.{payload_of, MayPack};
 ghost use Rattle.key_block.specs.declared.fault.BlockFault.{BlockFault};
 ghost use Rattle.key_block.specs.declared.fault.BlockFault.TheVariants.{Memory};
 ghost use Rattle.key_block.specs.declared.unpacking.KeyBlock.{KeyBlock};
+ghost use Rattle.key_block.specs.Single.{IsSingleKey, HasOneObject};
 ghost use Rattle.key_block.specs.Unpacking.{IsUnpacking};
 
 use file_model::packing_laws::a_payload_has_its_objects;
@@ -28,3 +29,10 @@ pub fn what_is_refused_is_no_block()
     ensures refused { (kind : Kind) (keypos : ℕ) (payload : List ℕ) (fault : BlockFault) → fault ≢ Memory → IsUnpacking kind keypos payload (Err fault)
         → one_key kind keypos (proper_elements (term_in payload)) ≡ None }
 {}
+
+/// A payload whose key is found without unpacking is that of a block of one object, which each kind allows for that key.
+pub fn a_single_key_is_that_of_one_object()
+    ensures { (kind : Kind) (keypos : ℕ) (payload bytes : List ℕ) → IsSingleKey keypos payload bytes → HasOneObject kind keypos payload bytes }
+{
+    a_payload_has_its_objects();
+}

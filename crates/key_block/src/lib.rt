@@ -10,6 +10,7 @@ pub use dets_term::TermList as Objects;
 pub use fault::{BlockFault, PackFault};
 pub use file_model::Packed;
 pub use packing::pack;
+pub use single::single_key;
 pub use std::alloc::AllocError as Memory;
 pub use unpacking::{KeyBlock, unpack};
 
@@ -17,6 +18,7 @@ mod fault;
 mod judging;
 pub mod laws;
 mod packing;
+mod single;
 #[cfg(test)]
 mod tests;
 mod unpacking;

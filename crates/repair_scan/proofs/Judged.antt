@@ -1,32 +1,28 @@
 -- One judgement more.
 use Rattle.std.proofs.Common.{◌≡◌, ◌≤◌, ◌<◌, ◌+◌, ◌^◌, ℕ, Bool, true, false, cond, List, [], ◌∷◌, ◌++◌, find, length, Option, Some, None, Ok, Err, ap, sym, ◌∙◌, refl, subst}
 use Rattle.std.proofs.Common.{arith, length-append}
+use Rattle.std.specs.Cow.{cow_slice_items}
 use Rattle.std.specs.Prelude.{option_map}
 use Rattle.std.specs.List.{AllByRecursion}
-use Rattle.std.specs.Cmp.{Equal-is}
-use Rattle.std.specs.Ordering.{nat_cmp, ordering_then, is_eq}
-use Rattle.std.specs.Cmp.Lexicographic.{slice_cmp}
-use Rattle.std.specs.declared.cmp.Ordering.{Ordering}
-use Rattle.std.specs.declared.cmp.Ordering.TheVariants.{Less, Equal, Greater}
-use Rattle.std.specs.BTreeMap.{get, Updates}
+use Rattle.std.specs.Str.{bytes_eq}
 use Rattle.std.proofs.lemmas.Bool.Decides.{nat_tests, same_from_decides}
-use Rattle.std.proofs.lemmas.Cmp.{nat_list_cmp_total, tied_itself}
-use Rattle.std.proofs.lemmas.Map.Lookups.{exact_bytes}
+use Rattle.std.proofs.lemmas.Slice.Eq.{bytes_eq-Decides}
 use Rattle.term_model.specs.TermValue.{TermValue}
 use Rattle.term_model.specs.IsTerm.{IsTerm}
 use Rattle.term_model.specs.Order.{is_same}
-use Rattle.term_model.specs.Orderings.{nat_cmp_self}
 use Rattle.term_model.specs.Same.{same_decides}
-use Rattle.etf_model.specs.Canonical.{spelled}
+use Rattle.etf_model.specs.declared.tags.TheConstants.{VERSION}
+use Rattle.etf_model.specs.Canonical.{canonical, spelled}
 use Rattle.file_model.specs.declared.entry.Entry.{Entry}
 use Rattle.file_model.specs.declared.reject.Reject.{Reject}
 use Rattle.file_model.specs.declared.reject.Reason.TheVariants.{KeyTaken}
 use Rattle.file_model.specs.Block.{Block, Standing}
-use Rattle.file_model.specs.Taken.{covers, block_has, key_hash, by_key, by_cover, judged}
+use Rattle.file_model.specs.Taken.{covers, block_has, by_key, by_cover, judged}
 use Rattle.repair_scan.specs.declared.candidate.Candidate.{Candidate}
 use Rattle.repair_scan.specs.declared.judge.Judge.{Judge}
 use Rattle.repair_scan.specs.Candidates.{IsRead, IsOfBlock}
-use Rattle.repair_scan.specs.Judgements.{KeyName, key_order, Names, EndBy, IsLast, Reflects, IsWithin, Judges}
+use Rattle.repair_scan.specs.Judgements.{EndBy, IsLast, Reflects, IsWithin, Judges}
+use Rattle.repair_scan.specs.TakenKeys.{unit_of}
 
 -- ---- no block that ends by a unit covers it
 
@@ -49,30 +45,15 @@ pub last_later : (u last end : ℕ) (below : List Block) → IsLast u last end b
 last_later u last end [] i = i
 last_later u last end (b ∷ bs) i = (omega (arith, i.0), i.1, i.2, i.3)
 
--- ---- names of keys tell them apart
-
-then_equal : (a b : Ordering) → ordering_then a b ≡ Equal → b ≡ Equal
-then_equal Less b e = absurd (cc e)
-then_equal Equal b e = e
-then_equal Greater b e = absurd (cc e)
+-- ---- spellings tell keys apart
 
 abbrev Tells : Type 0
 Tells = (j k : TermValue) → IsTerm j → IsTerm k → spelled j ≡ spelled k → j ≡ k
 
-same_name : (j k : TermValue) (q p : KeyName) → Names j q → Names k p → j ≡ k → key_order q p ≡ Equal
-same_name j k q p n m e =
-    let hash : q.0 ≡ p.0 = n.hash ∙ ap key_hash e ∙ sym m.hash in
-    let bytes : q.1.items ≡ p.1.items = n.bytes ∙ ap spelled e ∙ sym m.bytes in
-    ap (λ x. ordering_then (nat_cmp x p.0) (slice_cmp nat_cmp q.1.items p.1.items)) hash
-    ∙ ap (λ o. ordering_then o (slice_cmp nat_cmp q.1.items p.1.items)) (nat_cmp_self p.0)
-    ∙ ap (λ xs. slice_cmp nat_cmp xs p.1.items) bytes
-    ∙ tied_itself nat_list_cmp_total p.1.items
-
-names_tell : Tells → (j k : TermValue) (q p : KeyName) → IsTerm j → IsTerm k → Names j q → Names k p → is_eq (key_order q p) ≡ is_same j k
-names_tell tells j k q p is there n m = same_from_decides (is_eq (key_order q p)) (is_same j k) (
-  λ e. tells j k is there (sym n.bytes
-      ∙ exact_bytes q.1.items p.1.items (then_equal (nat_cmp q.0 p.0) (slice_cmp nat_cmp q.1.items p.1.items) ((Equal-is (key_order q p)).0 e)) ∙ m.bytes),
-  λ e. (Equal-is (key_order q p)).1 (same_name j k q p n m e),
+spellings_tell : Tells → (j k : TermValue) → IsTerm j → IsTerm k → bytes_eq (canonical j) (canonical k) ≡ is_same j k
+spellings_tell tells j k is there = same_from_decides (bytes_eq (canonical j) (canonical k)) (is_same j k) (
+  λ e. tells j k is there (ap (λ bs. VERSION ∷ bs) ((bytes_eq-Decides (canonical j) (canonical k)).0 e)),
+  λ e. (bytes_eq-Decides (canonical j) (canonical k)).1 (ap canonical e),
 ) (same_decides j k)
 
 -- ---- a block that is taken, or whose key is
@@ -95,36 +76,39 @@ with_block : (t : Bool) (u : ℕ) (b : Block) (o : Option Block) → b.unit ≡ 
 with_block true u b o e = ap (λ w. Some w) (sym e)
 with_block false u b o e = refl
 
-key_of_candidate : (u : ℕ) (b : Block) (c : Candidate) (q : KeyName) → IsOfBlock u b c → q.0 ≡ c.entry.hash → q.1.items ≡ c.key.items → Names b.key q
-key_of_candidate u b c q is hash bytes = record { hash = hash ∙ ap (λ x. x.hash) is.entry; bytes = bytes ∙ is.key }
+module _ (tells : Tells) (u : ℕ) (old new : Judge) (c : Candidate) (free : old.end ≤ u) where
+  -- the unit of the taken block with its key
+  had : (below : List Block) (b : Block) → Reflects below u old → IsOfBlock u b c
+      → unit_of old.keys (cow_slice_items c.key) ≡ option_map (λ b. b.unit) (find (block_has b.key) below)
+  had below b r of = ap (unit_of old.keys) of.key ∙ r.keys b.key of.term
 
-module _ (tells : Tells) (u : ℕ) (old new : Judge) (c : Candidate) (q : KeyName) (hash : q.0 ≡ c.entry.hash) (bytes : q.1.items ≡ c.key.items)
-    (free : old.end ≤ u) where
-  pub key_is_taken : (other : ℕ) → Some other ≡ get key_order old.keys q
-      → new ≡ record old { rejects = old.rejects ++ record { unit = u; reason = KeyTaken other } ∷ [] }
+  pub key_is_taken : (other : ℕ) → Some other ≡ unit_of old.keys (cow_slice_items c.key)
+      → ((bytes : List ℕ) → unit_of new.keys bytes ≡ unit_of old.keys bytes) → new.last ≡ old.last → new.end ≡ old.end → new.entries ≡ old.entries
+      → new.rejects ≡ old.rejects ++ record { unit = u; reason = KeyTaken other } ∷ []
       → (below : List Block) (s : Standing) → Reflects below u old → IsRead u (Ok c) s → Judges below u old new (judged below s)
-  key_is_taken other there e below s r is =
+  key_is_taken other there keys last end entries rejects below s r is =
       let b = is.0 in
       let of = is.2 in
-      let found = sym (r.keys b.key q of.term (key_of_candidate u b c q of hash bytes)) ∙ sym there in
+      let found = sym (had below b r of) ∙ sym there in
       let judgement : judged below s ≡ Err (KeyTaken other) =
       ap (judged below) is.1 ∙ uncovered below b u of.unit (ended u old.last old.end below r.last free)
       ∙ its_key (find (block_has b.key) below) b other found in
+      let place = subst (λ n. IsLast (u + 1) n new.end below) (sym last) (subst (λ n. IsLast (u + 1) old.last n below) (sym end) (last_later u old.last old.end below r.last)) in
       subst (Judges below u old new) (sym judgement) (
-        subst (Reflects below (u + 1)) (sym e) (record { last = last_later u old.last old.end below r.last; keys = r.keys }),
-        ap (λ j. j.entries) e,
-        ap (λ j. j.rejects) e,
+        record { last = place; keys = λ k term. keys (canonical k) ∙ r.keys k term },
+        entries,
+        rejects,
       )
 
-  pub block_is_taken : None ≡ get key_order old.keys q → Updates key_order old.keys new.keys q (Some u) → new.last ≡ u
+  pub block_is_taken : None ≡ unit_of old.keys (cow_slice_items c.key)
+      → ((bytes : List ℕ) → unit_of new.keys bytes ≡ cond (bytes_eq (cow_slice_items c.key) bytes) (Some u) (unit_of old.keys bytes)) → new.last ≡ u
       → new.end ≡ u + 2 ^ c.entry.exp → new.entries ≡ old.entries ++ c.entry ∷ [] → new.rejects ≡ old.rejects
       → (below : List Block) (s : Standing) → Reflects below u old → IsRead u (Ok c) s → Judges below u old new (judged below s)
-  block_is_taken there update last end entries rejects below s r is =
+  block_is_taken there put last end entries rejects below s r is =
       let b = is.0 in
       let of = is.2 in
-      let name = key_of_candidate u b c q of hash bytes in
       let by = ended u old.last old.end below r.last free in
-      let found = sym (r.keys b.key q of.term name) ∙ sym there in
+      let found = sym (had below b r of) ∙ sym there in
       let judgement : judged below s ≡ Ok b =
       ap (judged below) is.1 ∙ uncovered below b u of.unit by ∙ ap (by_key b) (no_key (find (block_has b.key) below) found) in
       let exp : c.entry.exp ≡ b.exp = ap (λ x. x.exp) of.entry in
@@ -136,9 +120,10 @@ module _ (tells : Tells) (u : ℕ) (old new : Judge) (c : Candidate) (q : KeyNam
             end ∙ ap (λ e. u + 2 ^ e) exp ∙ ap (λ w. w + 2 ^ b.exp) (sym of.unit),
             subst (λ w. EndBy w below) (sym of.unit) by,
           );
-          keys = λ k p term named. update.0 p
-              ∙ ap (λ t. cond t (Some u) (get key_order old.keys p)) (names_tell tells b.key k q p of.term term name named)
-              ∙ ap (cond (is_same b.key k) (Some u)) (r.keys k p term named)
+          keys = λ k term. put (canonical k)
+              ∙ ap (λ bs. cond (bytes_eq bs (canonical k)) (Some u) (unit_of old.keys (canonical k))) of.key
+              ∙ ap (λ t. cond t (Some u) (unit_of old.keys (canonical k))) (spellings_tell tells b.key k of.term term)
+              ∙ ap (cond (is_same b.key k) (Some u)) (r.keys k term)
               ∙ with_block (is_same b.key k) u b (find (block_has k) below) of.unit;
         },
         entries ∙ ap (λ x. old.entries ++ x ∷ []) of.entry,

@@ -7,3 +7,4 @@ mod Ends
 mod Counted
 mod Closed
 mod Reported
+mod KeptKeys

@@ -1,33 +1,18 @@
 -- How the open units of a file are judged one after another, from the lowest one up. This project's own.
 use Rattle.std.specs.Prelude.{◌≡◌, ◌≤◌, ◌<◌, ℕ, ◌+◌, ◌^◌, List, [], ◌∷◌, ◌++◌, length, find, option_map, Ok, Err}
 use Rattle.std.specs.List.{AllByRecursion}
-use Rattle.std.specs.Ordering.{nat_cmp, ordering_then}
-use Rattle.std.specs.Cmp.Lexicographic.{slice_cmp}
-use Rattle.std.specs.declared.cmp.Ordering.{Ordering}
-use Rattle.std.specs.Global.{Vec}
-use Rattle.std.specs.BTreeMap.{BTreeMap, get}
 use Rattle.term_model.specs.TermValue.{TermValue}
 use Rattle.term_model.specs.IsTerm.{IsTerm}
-use Rattle.etf_model.specs.Canonical.{spelled}
+use Rattle.etf_model.specs.Canonical.{canonical}
 use Rattle.file_model.specs.Block.{Block, Standing}
-use Rattle.file_model.specs.Taken.{block_has, key_hash, entry_of}
+use Rattle.file_model.specs.Taken.{block_has, entry_of}
 use Rattle.repair_scan.specs.declared.judge.Judge.{Judge}
-
--- ---- keys by hash and spelling
-
-abbrev pub KeyName : Type 0
-KeyName = ℕ × Vec ℕ
-
-abbrev pub key_order : KeyName → KeyName → Ordering
-key_order x y = ordering_then (nat_cmp x.0 y.0) (slice_cmp nat_cmp x.1.items y.1.items)
-
-pub record Names (k : TermValue) (q : KeyName) : Type 0 where
-  pub hash : q.0 ≡ key_hash k
-  pub bytes : q.1.items ≡ spelled k
+use Rattle.repair_scan.specs.declared.taken_keys.TakenKeys.{TakenKeys}
+use Rattle.repair_scan.specs.TakenKeys.{unit_of}
 
 -- each key has the unit of the taken block that has it
-abbrev pub HasKeys : List Block → BTreeMap KeyName ℕ → Type 0
-HasKeys below units = (k : TermValue) (q : KeyName) → IsTerm k → Names k q → get key_order units q ≡ option_map (λ b. b.unit) (find (block_has k) below)
+abbrev pub HasKeys : List Block → TakenKeys → Type 0
+HasKeys below keys = (k : TermValue) → IsTerm k → unit_of keys (canonical k) ≡ option_map (λ b. b.unit) (find (block_has k) below)
 
 -- ---- the last taken block
 

@@ -1,31 +1,32 @@
 //! The judgement on open units, from the lowest one up.
 ghost use Rattle.std.specs.Prelude.{◌≡◌, ◌<◌, ◌+◌, ◌^◌, [], ◌∷◌, ◌++◌, List, Ok, Some, OnOk};
-ghost use Rattle.std.specs.BTreeMap.{Updates};
 ghost use Rattle.file_model.specs.Block.{Block, Standing};
 ghost use Rattle.file_model.specs.Taken.{judged};
 ghost use Rattle.repair_scan.specs.Candidates.{IsRead};
-ghost use Rattle.repair_scan.specs.Judgements.{key_order, Reflects, IsWithin, Judges};
+ghost use Rattle.repair_scan.specs.Judgements.{Reflects, IsWithin, Judges};
+ghost use Rattle.repair_scan.specs.TakenKeys.{AreKept};
 
 use crate::candidate::{Candidate, run_units};
+use crate::taken_keys::TakenKeys;
 use crate::{Entries, Found, Memory, Reason, Reject, Rejects};
 use std::alloc::Global;
-use std::collections::BTreeMap;
 use table_model::walk_laws::keys_are_told_apart_by_their_bytes;
 
 /// What was found so far; the unit and the end of the last taken block, which alone can cover a unit behind it; and the keys
-/// of the taken blocks, by hash and canonical spelling, with the units of their blocks.
+/// of the taken blocks with the units of these.
 #[derive(Drop)]
 pub(crate) struct Judge {
     entries: Entries,
     rejects: Rejects,
     last: u32,
     end: u32,
-    keys: BTreeMap<(u32, Vec<u8>), u32>,
+    keys: TakenKeys,
 }
 
 impl Judge {
     /// No unit was judged yet.
     pub(crate) fn new(alloc: Global) -> Judge
+        ensures kept { AreKept result.keys }
         ensures within { IsWithin 0 result }
         ensures reflects { Reflects [] 0 result }
         ensures entries { result.entries ≡ [] }
@@ -36,15 +37,21 @@ impl Judge {
             rejects: Rejects::new(alloc),
             last: 0,
             end: 0,
-            keys: BTreeMap::new(alloc),
+            keys: TakenKeys::new(alloc),
         }
     }
 
     /// Judges what stands at an open unit, which is above those that were judged. After `Memory` nothing is known.
-    pub(crate) fn add(&mut self, unit: u32, found: Result<Candidate, Reason>) -> Result<(), Memory>
-        requires { unit < 2 ^ 31 }
+    pub(crate) fn add(
+        &mut self,
+        unit: u32,
+        found: Result<Candidate<'_>, Reason>,
+    ) -> Result<(), Memory>
+        requires inside { unit < 2 ^ 31 }
+        requires kept { AreKept self.old.keys }
+        ensures kept { OnOk result (AreKept self.new.keys) }
         ensures within { OnOk result (IsWithin unit self.old → IsWithin (unit + 1) self.new) }
-        ensures judges { OnOk result ((below : List Block) (s : Standing) → Reflects below unit self.old → IsRead unit found s
+        ensures judges { OnOk result ((below : List Block) (s : Standing) → Reflects below unit self.old → IsRead unit found.entry s
             → Judges below unit self.old self.new (judged below s)) }
     {
         match found {
@@ -54,10 +61,12 @@ impl Judge {
     }
 
     /// Judges a block.
-    fn judge(&mut self, unit: u32, candidate: Candidate) -> Result<(), Memory>
-        requires { unit < 2 ^ 31 }
+    fn judge(&mut self, unit: u32, candidate: Candidate<'_>) -> Result<(), Memory>
+        requires inside { unit < 2 ^ 31 }
+        requires kept { AreKept self.old.keys }
+        ensures kept { OnOk result (AreKept self.new.keys) }
         ensures within { OnOk result (IsWithin unit self.old → IsWithin (unit + 1) self.new) }
-        ensures judges { OnOk result ((below : List Block) (s : Standing) → Reflects below unit self.old → IsRead unit (Ok candidate) s
+        ensures judges { OnOk result ((below : List Block) (s : Standing) → Reflects below unit self.old → IsRead unit (Ok candidate.entry) s
             → Judges below unit self.old self.new (judged below s)) }
     {
         if unit < self.end {
@@ -65,14 +74,12 @@ impl Judge {
             return self.reject(unit, reason);
         }
         keys_are_told_apart_by_their_bytes();
-        let name = (candidate.entry.hash, candidate.key);
-        if let Some(other) = self.keys.get(&name) {
-            let reason = Reason::KeyTaken(*other);
-            return self.reject(unit, reason);
+        let key = candidate.key.as_slice();
+        if let Some(other) = self.keys.put(candidate.entry.hash, key, unit)? {
+            return self.reject(unit, Reason::KeyTaken(other));
         }
         self.end = unit + run_units(candidate.entry.exp);
         self.last = unit;
-        self.keys.insert(name, unit)?;
         self.entries.push(candidate.entry)
     }
 

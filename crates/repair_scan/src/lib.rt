@@ -31,5 +31,6 @@ mod report;
 mod scanning;
 mod segment;
 mod standing;
+mod taken_keys;
 #[cfg(test)]
 mod tests;

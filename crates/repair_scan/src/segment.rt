@@ -9,6 +9,7 @@ ghost use Rattle.file_model.specs.Layout.{segment_at, unit_at, segment_end};
 ghost use Rattle.file_model.specs.View.{Units};
 ghost use Rattle.repair_scan.specs.Judgements.{IsWithin};
 ghost use Rattle.repair_scan.specs.Progress.{units_with, IsJudgedTo, ShowsUnit, ShowsSegment};
+ghost use Rattle.repair_scan.specs.TakenKeys.{AreKept};
 
 use crate::judge::Judge;
 use crate::standing::read_standing;
@@ -32,7 +33,9 @@ fn judge_unit(
     bytes: &[u8],
 ) -> Result<(), Memory>
     requires inside { unit < 2 ^ 31 }
+    requires kept { AreKept judge.old.keys }
     requires size { unit_at segment_units unit + length bytes.now ≡ segment_end segment_units unit }
+    ensures kept { OnOk result (AreKept judge.new.keys) }
     ensures within { OnOk result (IsWithin unit judge.old → IsWithin (unit + 1) judge.new) }
     ensures goes_on { OnOk result ((v : Units) → ShowsUnit v head.now unit gate bytes.now
         → IsJudgedTo v unit judge.old → IsJudgedTo v (unit + 1) judge.new) }
@@ -55,7 +58,9 @@ fn judge_units(
     units: &[u8],
 ) -> Result<(), Memory>
     requires inside { segment < 8000 }
+    requires kept { AreKept judge.old.keys }
     requires size { length units.now ≡ unit_size * segment_units }
+    ensures kept { OnOk result (AreKept judge.new.keys) }
     ensures within { OnOk result (IsWithin (segment_units * segment) judge.old → IsWithin (segment_units * (segment + 1)) judge.new) }
     ensures goes_on { OnOk result ((v : Units) → ShowsSegment v head.now segment gates.now units.now
         → IsJudgedTo v (segment_units * segment) judge.old → IsJudgedTo v (segment_units * (segment + 1)) judge.new) }
@@ -109,8 +114,10 @@ pub(crate) fn scan_segment<H: Host>(
     judge: &mut Judge,
 ) -> Result<(), ScanFault>
     requires inside { segment < 8000 }
+    requires kept { AreKept judge.old.keys }
     requires size { length units.old ≡ unit_size * segment_units }
     requires whole { WhereTold (H.shows host.old).file (λ f. segment_at segment_units (segment + 1) ≤ length f) }
+    ensures kept { OnOk result (AreKept judge.new.keys) }
     ensures within { OnOk result (IsWithin (segment_units * segment) judge.old → IsWithin (segment_units * (segment + 1)) judge.new) }
     ensures goes_on { OnOk result (WhereTold (H.shows host.old).file (λ f. (segments : ℕ) → segment < segments
         → IsJudgedTo (units_with head.now segments f) (segment_units * segment) judge.old
