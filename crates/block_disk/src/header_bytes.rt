@@ -1,5 +1,5 @@
 //! The body of a header, written and read.
-ghost use Rattle.std.specs.Prelude.{◌≡◌, ◌≤◌, ◌+◌, ◌*◌, slice_range};
+ghost use Rattle.std.specs.Prelude.{◌≡◌, ◌≤◌, ◌+◌, ◌*◌, true, slice_range, IfOk};
 ghost use Rattle.std.specs.Str.{bytes_eq};
 ghost use Rattle.file_model.specs.Header.{body_of, magic, number_at, has_zeros, head_with, head_in};
 ghost use Rattle.file_model.specs.Header.{state_number, state_of, kind_number, kind_of, is_allowed, if_allowed, may_name, index_number, index_of};
@@ -116,7 +116,8 @@ fn is_allowed(head: &Head) -> bool
 
 /// The header itself, where its fields are in range.
 fn if_allowed(head: Head) -> Result<Head, Unreadable>
-    ensures { result ≡ if_allowed head }
+    ensures value { result ≡ if_allowed head }
+    ensures allowed { IfOk result (λ h. is_allowed h ≡ true) }
 {
     if is_allowed(&head) {
         Ok(head)
@@ -149,7 +150,8 @@ fn number_at(body: &[u8; 32], at: usize) -> u32
 
 /// The header of a body that has this state and kind.
 fn head_with(body: &[u8; 32], state: FileState, kind: Kind) -> Result<Head, Unreadable>
-    ensures { result ≡ head_with body.now (Some state) (Some kind) }
+    ensures value { result ≡ head_with body.now (Some state) (Some kind) }
+    ensures allowed { IfOk result (λ h. is_allowed h ≡ true) }
 {
     if_allowed(Head {
         version: THE_VERSION,
@@ -164,7 +166,8 @@ fn head_with(body: &[u8; 32], state: FileState, kind: Kind) -> Result<Head, Unre
 
 /// The header of a body.
 pub(crate) fn head_in(body: &[u8; 32]) -> Result<Head, Unreadable>
-    ensures { result ≡ head_in body.now }
+    ensures value { result ≡ head_in body.now }
+    ensures allowed { IfOk result (λ h. is_allowed h ≡ true) }
 {
     if !has_magic(body) {
         return Err(Unreadable::NotDets);

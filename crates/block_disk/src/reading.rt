@@ -1,10 +1,10 @@
 //! The reading of the header.
-ghost use Rattle.std.specs.Prelude.{◌≡◌, ◌≤◌, ◌+◌, length, Ok, Err, IsTrue, IfOk, OnOk, OnErr};
+ghost use Rattle.std.specs.Prelude.{◌≡◌, ◌≤◌, ◌+◌, length, true, Ok, Err, IsTrue, IfOk, OnOk, OnErr};
 ghost use Rattle.host_model.specs.Counts.{Rose};
 ghost use Rattle.host_model.specs.Disk.{WhereTold};
 ghost use Rattle.host_model.specs.Host.{Rests, CountsRead, MayCountRead};
 ghost use Rattle.file_model.specs.Layout.{page_size, page_of};
-ghost use Rattle.file_model.specs.Header.{head_in, body_in, located};
+ghost use Rattle.file_model.specs.Header.{head_in, body_in, is_allowed, located};
 ghost use Rattle.block_disk.specs.Answer.{Answers, copies_in, copies_by};
 
 use crate::HeadFault;
@@ -47,6 +47,7 @@ fn read_copies<H: Host>(host: &mut H) -> Result<Option<(bool, bool)>, DiskFailed
 fn read_copy<H: Host>(host: &mut H, second: bool) -> Result<Result<Head, Unreadable>, DiskFailed>
     requires { WhereTold (H.shows host.old).file (λ f. page_size ≤ length f) }
     ensures given { IfOk result (λ head. WhereTold (H.shows host.old).file (λ f. head ≡ head_in (body_in (page_of f) second))) }
+    ensures allowed { IfOk result (λ head. IfOk head (λ h. is_allowed h ≡ true)) }
     ensures rests { Rests (H.shows host.old) (H.shows host.new) }
     ensures counted { OnOk result (CountsRead (H.shows host.old) (H.shows host.new)) }
     ensures reads { OnErr result (MayCountRead (H.shows host.old) (H.shows host.new)) }
@@ -65,6 +66,8 @@ fn read_copy<H: Host>(host: &mut H, second: bool) -> Result<Result<Head, Unreada
 pub fn read_header<H: Host>(host: &mut H) -> Result<Located, HeadFault>
     ensures told { WhereTold (H.shows host.old).file (λ f. Answers result (located f)) }
     ensures found { IfOk result (λ place. WhereTold (H.shows host.old).file (λ f. located f ≡ Ok place)) }
+    ensures allowed { IfOk result (λ place. is_allowed place.head ≡ true) }
+    ensures whole { IfOk result (λ place. place.whole ≤ place.head.segments) }
     ensures rests { Rests (H.shows host.old) (H.shows host.new) }
     ensures reads { IsTrue (H.shows host.old).tells_stops → (H.shows host.new).reads ≤ (H.shows host.old).reads + 2 }
     ensures cause { result ≡ Err HeadFault.Disk → Rose (H.shows host.old).disk_faults (H.shows host.new).disk_faults }
