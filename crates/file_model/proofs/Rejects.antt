@@ -6,7 +6,7 @@ use Rattle.file_model.specs.declared.reject.Reason.{Reason}
 use Rattle.file_model.specs.declared.reject.Reject.{Reject}
 use Rattle.file_model.specs.Block.{Block, Standing}
 use Rattle.file_model.specs.View.{Units, open_from, view}
-use Rattle.file_model.specs.Taken.{judged, taken_next, taken_above, rejects_next, rejects_above, objects_in, table_of}
+use Rattle.file_model.specs.Taken.{judged, taken_next, taken_above, rejects_next, rejects_above, taken, objects_in, table_of}
 use Rattle.file_model.specs.Fit.{are_none, has_no_rejects}
 use Rattle.file_model.specs.Gates.{Gates, with_gates, is_among, rejected_units, ClosesRejects, table_with}
 
@@ -98,12 +98,17 @@ taken_without gates now stands (suc n) u below c = ⊎_elim
     rw (closed, shut) (taken_without gates now stands n (suc u) below (after_closed gates now stands n u below closed c)))
     (cases_Bool (gates u))
 
-pub table_without : (h : Head) (file : Units) (now : Gates) → ClosesRejects h file now → table_with h file now ≡ table_of (view h file)
-table_without h file now c =
-    let e = taken_without file.is_open now file.stands file.count 0 [] (record {
+pub blocks_without : (h : Head) (file : Units) (now : Gates) → ClosesRejects h file now
+    → taken (view h (with_gates file now)) ≡ taken (view h file)
+blocks_without h file now c =
+    taken_without file.is_open now file.stands file.count 0 [] (record {
       no_others = c.no_others;
       rejected = λ w l m o shut. c.rejected w (omega arith) o shut;
-    }) in
+    })
+
+pub table_without : (h : Head) (file : Units) (now : Gates) → ClosesRejects h file now → table_with h file now ≡ table_of (view h file)
+table_without h file now c =
+    let e = blocks_without h file now c in
     λ i. record { kind = h.kind; keypos = h.keypos; objects = objects_in (e i) }
 
 -- ---- all of them closed

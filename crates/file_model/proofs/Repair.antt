@@ -9,12 +9,12 @@ use Rattle.file_model.specs.declared.head.Head.{Head}
 use Rattle.file_model.specs.Layout.{page_size, closed_byte}
 use Rattle.file_model.specs.Header.{located}
 use Rattle.file_model.specs.View.{Units, units_in, view}
-use Rattle.file_model.specs.Taken.{table_of}
+use Rattle.file_model.specs.Taken.{taken, table_of}
 use Rattle.file_model.specs.Fit.{has_no_rejects}
 use Rattle.file_model.specs.Gates.{is_among, rejected_units, ClosesRejects}
 use Rattle.file_model.specs.GateWrites.{gate_writes, AreWhole, AreOpen, OnlyGatesDiffer}
 use Rattle.file_model.specs.Flush.{table_in}
-use Rattle.file_model.proofs.Rejects.{rejects_open, table_without, none_without}
+use Rattle.file_model.proofs.Rejects.{rejects_open, blocks_without, table_without, none_without}
 use Rattle.file_model.proofs.GateWrites.{gates_torn, seen_by_gates, closes_some, gates_closed, lie_inside, unit_inside}
 use Rattle.file_model.proofs.BodyWrites.{begin_inside}
 
@@ -56,6 +56,12 @@ module _ (n : ℕ) (h : Head) (old : List ℕ) (some : 0 < n) (page : page_size 
   while_closing_rejects z d =
       let only = closing z d in
       (only.header, ap table_of (seen_by_gates n us old z h only) ∙ table_without h file (units_in n h z).is_open (closes z only))
+
+  pub blocks_while_closing : (z : List ℕ) → DiffersIn (ranges_of (gate_writes n closed_byte us)) old z
+      → taken (view h (units_in n h z)) ≡ taken (view h file)
+  blocks_while_closing z d =
+      let only = closing z d in
+      ap taken (seen_by_gates n us old z h only) ∙ blocks_without h file (units_in n h z).is_open (closes z only)
 
   abbrev done : List ℕ
   done = with_writes (gate_writes n closed_byte us) old

@@ -14,7 +14,7 @@ use Rattle.file_model.specs.Layout.{page_size, closed_byte, gate_at, segment_end
 use Rattle.file_model.specs.LayoutLaws.{in_segment, segment_ends}
 use Rattle.file_model.specs.Header.{located}
 use Rattle.file_model.specs.View.{units_in, view, view_of}
-use Rattle.file_model.specs.Taken.{rejects}
+use Rattle.file_model.specs.Taken.{taken, rejects}
 use Rattle.file_model.specs.Fit.{has_no_rejects}
 use Rattle.file_model.specs.Gates.{is_among, rejected_units}
 use Rattle.file_model.specs.GateWrites.{gate_write, gate_writes, AreWhole}
@@ -57,6 +57,11 @@ Kept = (per_segment : ℕ) (h : Head) (old : List ℕ) → 0 < per_segment → p
     → DiffersIn (ranges_of (gate_writes per_segment closed_byte (rejected_units (view h (units_in per_segment h old))))) old image
     → (located image ≡ located old) × (table_in per_segment h image ≡ table_in per_segment h old)
 
+abbrev Blocks : Type 0
+Blocks = (per_segment : ℕ) (h : Head) (old : List ℕ) → 0 < per_segment → page_size ≤ length old → (image : List ℕ)
+    → DiffersIn (ranges_of (gate_writes per_segment closed_byte (rejected_units (view h (units_in per_segment h old))))) old image
+    → taken (view h (units_in per_segment h image)) ≡ taken (view h (units_in per_segment h old))
+
 abbrev Ended : Type 0
 Ended = (per_segment : ℕ) (h : Head) (old : List ℕ) → 0 < per_segment → page_size ≤ length old
     → has_no_rejects (view h (units_in per_segment h
@@ -64,11 +69,11 @@ Ended = (per_segment : ℕ) (h : Head) (old : List ℕ) → 0 < per_segment → 
 
 module _ (rs : List Reject) (f : List ℕ) (some : length rs ≡ 0 → ⊥) (whole : AreWhole segment_units (units_of_rejects rs) f) (h : Head)
     (are : rs ≡ rejects (view_of h f)) where
-  pub keeps : Kept → (z : List ℕ) → DiffersIn (ranges_of (gate_writes segment_units closed_byte (units_of_rejects rs))) f z → KeepsTable h f z
-  keeps kept z d =
+  pub keeps : Kept → Blocks → (z : List ℕ) → DiffersIn (ranges_of (gate_writes segment_units closed_byte (units_of_rejects rs))) f z → KeepsTable h f z
+  keeps kept blocks z d =
       let own = subst (λ us. DiffersIn (ranges_of (gate_writes segment_units closed_byte us)) f z) (ap units_of_rejects are) d in
       let same = kept segment_units h f (omega arith) (page_there rs f some whole) z own in
-      record { header = same.0; table = same.1 }
+      record { header = same.0; blocks = blocks segment_units h f (omega arith) (page_there rs f some whole) z own; table = same.1 }
 
   pub none_left : Ended → has_no_rejects (view_of h (with_writes (gate_writes segment_units closed_byte (units_of_rejects rs)) f)) ≡ true
   none_left ended =

@@ -37,7 +37,8 @@ returns-clause-any_moment g c settled f told h are =
     (g.H.Host.shows c.args.host.now) (g.H.Host.shows c.write_all_and_sync.new.host)
     (λ z image. keeps rs f (λ none. c.if-len-eq0.false (c.len.ensures ∙ ap length (sym is) ∙ none))
     (subst (λ x. AreWhole segment_units (units_of_rejects x) f) (sym is) (c.requires.whole f told)) h (is ∙ are)
-    c.a_repair_keeps_the_table_and_ends_without_rejects.ensures.any_moment z image.differs)
+    c.a_repair_keeps_the_table_and_ends_without_rejects.ensures.any_moment
+    c.a_repair_keeps_the_table_and_ends_without_rejects.ensures.blocks z image.differs)
     (c.write_all_and_sync.ensures.images settled f told)
 
 pub returns-clause-table : goal.returns-clause-table
@@ -48,5 +49,6 @@ returns-clause-table g c f told h are =
     (g.H.Host.shows c.args.host.now).file (g.H.Host.shows c.write_all_and_sync.new.host).file f told
     (λ z differs. keeps rs f (λ none. c.if-len-eq0.false (c.len.ensures ∙ ap length (sym is) ∙ none))
     (subst (λ x. AreWhole segment_units (units_of_rejects x) f) (sym is) (c.requires.whole f told)) h (is ∙ are)
-    c.a_repair_keeps_the_table_and_ends_without_rejects.ensures.any_moment z differs)
+    c.a_repair_keeps_the_table_and_ends_without_rejects.ensures.any_moment
+    c.a_repair_keeps_the_table_and_ends_without_rejects.ensures.blocks z differs)
     c.write_all_and_sync.ensures.tearing.file
