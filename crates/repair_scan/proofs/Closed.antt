@@ -82,16 +82,6 @@ module _ (rs : List Reject) (f : List ℕ) (some : length rs ≡ 0 → ⊥) (who
 
 -- ---- a file that is told
 
-pub changes_at : (R S : List ℕ → List ℕ → Type 0) (old new : Option (List ℕ)) (f : List ℕ) → old ≡ Some f → ((z : List ℕ) → R f z → S f z)
-    → Changes R old new → Changes S old new
-changes_at R S old new f told so c = record {
-  told = λ x e.
-      let same : f ≡ x = cc (told, e) in
-      let t = c.told f told in
-      (t.0, t.1, subst (λ y. S y t.0) same (so t.0 t.2));
-  untold = c.untold;
-}
-
 pub told_after : (P : List ℕ → Type 0) (make : List ℕ → List ℕ) (old new : Option (List ℕ)) (f : List ℕ) → old ≡ Some f → new ≡ option_map make old
     → P (make f) → WhereTold new P
 told_after P make old new f told is p g e =

@@ -35,8 +35,8 @@ pub fn close_rejects<H: Host>(host: &mut H, found: &Found) -> Result<(), DiskFai
     // Whatever it answers.
     ensures any_moment { Settled (H.shows host.old) → WhereTold (H.shows host.old).file (λ f. (h : Head)
         → found.now.rejects ≡ rejects (view_of h f) → LeavesImages (H.shows host.old) (H.shows host.new) (KeepsTable h f)) }
-    ensures table { WhereTold (H.shows host.old).file (λ f. (h : Head) → found.now.rejects ≡ rejects (view_of h f)
-        → Changes (KeepsTable h) (H.shows host.old).file (H.shows host.new).file) }
+    ensures table { Changes (λ f g. (h : Head) → found.now.rejects ≡ rejects (view_of h f) → KeepsTable h f g)
+        (H.shows host.old).file (H.shows host.new).file }
     ensures clock { (H.shows host.new).clock ≤ (H.shows host.old).clock + length found.now.rejects + 1 }
     ensures said { (H.shows host.new).said ≡ (H.shows host.old).said }
     ensures reads { (H.shows host.new).reads ≡ (H.shows host.old).reads }

@@ -1,2 +1,4 @@
 -- Lemmas that several proofs share.
 pub mod Opened
+pub mod Marked
+pub mod Repaired

@@ -1,2 +1,4 @@
 -- The definitions of this crate.
 pub mod Opening
+pub mod Repairing
+pub mod Below

@@ -10,6 +10,8 @@ pub use opening::opened_book;
 pub use slot_table::Entries;
 pub use std::alloc::AllocError as Memory;
 
+mod below;
 mod opening;
+mod repairing;
 #[cfg(test)]
 mod tests;

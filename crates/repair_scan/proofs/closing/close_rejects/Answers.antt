@@ -5,11 +5,14 @@ use Rattle.host_model.specs.Disk.{DiffersIn, IsImage}
 use Rattle.host_model.specs.Images.{images_weaker}
 use Rattle.host_model.specs.Writes.{ranges_of, with_writes, BeginInside}
 use Rattle.file_model.specs.Layout.{closed_byte}
+use Rattle.file_model.specs.declared.head.Head.{Head}
 use Rattle.file_model.specs.View.{view_of}
+use Rattle.file_model.specs.Taken.{rejects}
 use Rattle.file_model.specs.Fit.{has_no_rejects}
 use Rattle.file_model.specs.GateWrites.{gate_writes, AreWhole}
 use Rattle.repair_scan.specs.Found.{units_of_rejects, KeepsTable}
-use Rattle.repair_scan.proofs.Closed.{gates_begin, keeps, none_left, changes_at, told_after}
+use Rattle.block_disk.proofs.Telling.{changes_known}
+use Rattle.repair_scan.proofs.Closed.{gates_begin, keeps, none_left, told_after}
 use Rattle.repair_scan.proofs.closing.close_rejects.Goals as goal
 
 pub write_all_and_sync-requires : goal.write_all_and_sync-requires
@@ -42,13 +45,15 @@ returns-clause-any_moment g c settled f told h are =
     (c.write_all_and_sync.ensures.images settled f told)
 
 pub returns-clause-table : goal.returns-clause-table
-returns-clause-table g c f told h are =
+returns-clause-table g c =
     let rs = c.from_rejects-closing.result.rejects.now in
     let is = c.from_rejects-closing.ensures in
-    changes_at (DiffersIn (ranges_of (gate_writes segment_units closed_byte (units_of_rejects rs)))) (KeepsTable h)
-    (g.H.Host.shows c.args.host.now).file (g.H.Host.shows c.write_all_and_sync.new.host).file f told
-    (λ z differs. keeps rs f (λ none. c.if-len-eq0.false (c.len.ensures ∙ ap length (sym is) ∙ none))
-    (subst (λ x. AreWhole segment_units (units_of_rejects x) f) (sym is) (c.requires.whole f told)) h (is ∙ are)
+    changes_known (AreWhole segment_units (units_of_rejects c.args.found.now.rejects))
+    (DiffersIn (ranges_of (gate_writes segment_units closed_byte (units_of_rejects rs))))
+    (λ f z. (h : Head) → c.args.found.now.rejects ≡ rejects (view_of h f) → KeepsTable h f z)
+    (g.H.Host.shows c.args.host.now).file (g.H.Host.shows c.write_all_and_sync.new.host).file
+    (λ f z whole differs h are. keeps rs f (λ none. c.if-len-eq0.false (c.len.ensures ∙ ap length (sym is) ∙ none))
+    (subst (λ x. AreWhole segment_units (units_of_rejects x) f) (sym is) whole) h (is ∙ are)
     c.a_repair_keeps_the_table_and_ends_without_rejects.ensures.any_moment
     c.a_repair_keeps_the_table_and_ends_without_rejects.ensures.blocks z differs)
-    c.write_all_and_sync.ensures.tearing.file
+    c.requires.whole c.write_all_and_sync.ensures.tearing.file
