@@ -23,3 +23,4 @@ pub mod NewObjects
 pub mod FlushedLedger
 pub mod Prepared
 pub mod Stopping
+pub mod FileLedger

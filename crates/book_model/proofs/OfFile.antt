@@ -125,7 +125,7 @@ planned_of laws file cs b of are =
 
 -- ---- of another file that shows the same
 
-same_taken : (v w : View) → ShowsSame v w → taken w ≡ taken v
+pub same_taken : (v w : View) → ShowsSame v w → taken w ≡ taken v
 same_taken v w same = ap (λ os. taken_above os []) same.open_units
 
 old_of : (v w : View) (key : List ℕ) (o : Option Entry) → taken w ≡ taken v → IsOld v key o → IsOld w key o

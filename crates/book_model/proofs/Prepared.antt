@@ -1,5 +1,5 @@
 -- A file that is prepared for a flush shows what it showed.
-use Rattle.std.proofs.Common.{◌≡◌, ◌≤◌, inl, ⊎_elim, ℕ, true, false, ◌&&◌, ◌||◌, List, [], ◌∷◌, length, Ok}
+use Rattle.std.proofs.Common.{◌≡◌, ◌≤◌, inl, ⊎_elim, ℕ, true, false, ◌&&◌, ◌||◌, List, [], ◌∷◌, length, map, Ok}
 use Rattle.std.proofs.Common.{refl, sym, ap, ◌∙◌, subst, arith}
 use Rattle.std.proofs.lemmas.Bool.{leb-true, le-leb, or_parts}
 use Rattle.host_model.specs.Disk.{Range, range, is_in, in_doubt, DiffersIn}
@@ -13,14 +13,14 @@ use Rattle.file_model.specs.View.{View, units_in, view_of}
 use Rattle.file_model.specs.Taken.{taken_above, objects_in, table_of}
 use Rattle.file_model.specs.Fit.{is_dirty, has_segments, has_no_rejects, index_named, lists_taken, is_sound}
 use Rattle.book_model.specs.Book.{Book}
-use Rattle.book_model.specs.OfFile.{IsOf, ShowsSame, AddsClosed, placed_at}
+use Rattle.book_model.specs.OfFile.{IsOf, ShowsSame, AddsClosed, placed_at, standing_block, standing_of}
 use Rattle.book_model.specs.Flushing.{table_with_head, HaveNew}
 use Rattle.book_model.specs.Stopped.{dirtied, KeepsSegments, AreShut, IsDirtied, IsPreparing, IsPrepared}
 use Rattle.book_model.specs.Stopped.{HaveOldOrNew, IsStopped}
 use Rattle.book_model.specs.Below.{BlockLaws, StopLaws}
 use Rattle.book_model.proofs.Headers.{allowed_of}
 use Rattle.book_model.proofs.Closed.{shows_same}
-use Rattle.book_model.proofs.OfFile.{block_of, same_of}
+use Rattle.book_model.proofs.OfFile.{block_of, same_of, same_taken}
 
 -- ---- tables
 
@@ -174,6 +174,10 @@ module _ (blocks : BlockLaws) (laws : StopLaws) (old now : List ℕ) (b : Book) 
 
     pub prepared_table : table_with_head place.head now ≡ table_with_head h old
     prepared_table = same_table (view_of h old) (view_of place.head now) shows_prepared
+
+    pub prepared_standing : standing_of (view_of place.head now) ≡ standing_of (view_of h old)
+    prepared_standing =
+        ap (map standing_block) (same_taken (view_of h old) (view_of place.head now) shows_prepared)
 
     prepared_read : head_of now ≡ Ok place.head
     prepared_read = (blocks.located now place p.place_is).0

@@ -5,6 +5,7 @@ pub mod Book
 pub mod Planning
 pub mod LedgerOf
 pub mod OfFile
+pub mod LedgerOfFile
 pub mod Flushing
 pub mod Stopped
 pub mod Below

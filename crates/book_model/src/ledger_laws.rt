@@ -1,11 +1,15 @@
 //! Laws of a book and its ledger, as contracts of functions that do nothing.
 ghost use Rattle.std.specs.Prelude.{◌≡◌, ℕ, List};
 ghost use Rattle.space_model.specs.Apart.{SameMembers};
-ghost use Rattle.space_model.specs.Ledger.{Standing, held as held_of_ledger, serve as serve_ledger, serve_all as serve_all_ledger, after_command};
+ghost use Rattle.space_model.specs.Ledger.{Ledger, Standing, held as held_of_ledger, serve as serve_ledger, serve_all as serve_all_ledger, after_command};
 ghost use Rattle.book_model.specs.declared.change.Change.{Change};
-ghost use Rattle.book_model.specs.Book.{Book, held, IsWellFormed};
+ghost use Rattle.file_model.specs.Header.{units_per_segment};
+ghost use Rattle.file_model.specs.View.{view_of};
+ghost use Rattle.book_model.specs.Book.{Book, held, IsWellFormed, IsAlike};
 ghost use Rattle.book_model.specs.Planning.{IsChange, AreChanges, serve, serve_all, planned};
 ghost use Rattle.book_model.specs.LedgerOf.{AreStanding, ledger_of, touch_of, touches_of, ledger_result};
+ghost use Rattle.book_model.specs.OfFile.{IsOf, AreChangesOf, standing_of};
+ghost use Rattle.book_model.specs.LedgerOfFile.{HasLedger};
 
 use crate::below::{places_and_states, the_ledger_below};
 
@@ -38,3 +42,31 @@ pub fn the_held_runs_are_those_of_the_ledger()
     ensures { (segment_units : ℕ) (standing : List Standing) (b : Book) → IsWellFormed segment_units b → AreStanding standing b
         → SameMembers (held b.space) (held_of_ledger (ledger_of standing b)) }
 {}
+
+/// A book has the ledger with the blocks of its file. What stands in each ledger that it has is what stands for the book, and
+/// alike books have the same ledgers.
+pub fn a_book_of_a_file_has_its_ledger()
+    ensures own { (file : List ℕ) (b : Book) → HasLedger file b (ledger_of (standing_of (view_of b.place.head file)) b) }
+    ensures stands { (file : List ℕ) (b : Book) (l : Ledger) → IsOf file b → HasLedger file b l → AreStanding l.standing b }
+    ensures alike { (file : List ℕ) (a b : Book) (l : Ledger) → IsAlike a b → HasLedger file a l → HasLedger file b l }
+{}
+
+/// A command over a book that is that of a file moves the ledger as the ledger's definition says, and answers what the ledger
+/// answers.
+pub fn a_command_moves_the_ledger_of_a_file()
+    ensures answer { (file : List ℕ) (changes : List Change) (b : Book) (l : Ledger) → IsOf file b
+        → AreChangesOf (view_of b.place.head file) b changes → HasLedger file b l
+        → ledger_result l.standing (serve_all (units_per_segment b.place.head) b changes)
+        ≡ serve_all_ledger (units_per_segment b.place.head) l (touches_of changes) }
+    ensures command { (file : List ℕ) (changes : List Change) (b : Book) (l : Ledger) → IsOf file b
+        → AreChangesOf (view_of b.place.head file) b changes → HasLedger file b l
+        → HasLedger file (planned (units_per_segment b.place.head) b changes)
+        (after_command (units_per_segment b.place.head) l (touches_of changes)) }
+    ensures alike { (file : List ℕ) (changes : List Change) (b new : Book) (l : Ledger) → IsOf file b
+        → AreChangesOf (view_of b.place.head file) b changes → HasLedger file b l
+        → IsAlike (planned (units_per_segment b.place.head) b changes) new
+        → HasLedger file new (after_command (units_per_segment b.place.head) l (touches_of changes)) }
+{
+    places_and_states();
+    the_ledger_below();
+}

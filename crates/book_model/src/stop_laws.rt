@@ -1,11 +1,14 @@
 //! Laws of a flush that is stopped at any moment, as contracts of functions that do nothing.
 ghost use Rattle.std.specs.Prelude.{◌≡◌, ℕ, List};
 ghost use Rattle.table_model.specs.Table.{Table};
+ghost use Rattle.space_model.specs.Ledger.{Ledger};
 ghost use Rattle.file_model.specs.declared.head.Located.{Located};
 ghost use Rattle.file_model.specs.declared.head.FileState.TheVariants.{Dirty};
 ghost use Rattle.file_model.specs.Header.{units_per_segment};
+ghost use Rattle.file_model.specs.View.{view_of};
 ghost use Rattle.book_model.specs.Book.{Book};
-ghost use Rattle.book_model.specs.OfFile.{IsOf, placed_at};
+ghost use Rattle.book_model.specs.OfFile.{IsOf, placed_at, standing_of};
+ghost use Rattle.book_model.specs.LedgerOfFile.{HasLedger, all_filed};
 ghost use Rattle.book_model.specs.Flushing.{bodies_of, old_units, flushed_file, table_with_head, HaveNew};
 ghost use Rattle.book_model.specs.Stopped.{IsPreparing, IsPrepared, IsWriting, IsStopped};
 
@@ -20,13 +23,20 @@ pub fn while_a_file_is_prepared_nothing_is_lost()
     stops_below();
 }
 
-/// Once a file is prepared the book, with the new header, is that of the file as it is then, and the table is the same.
+/// Once a file is prepared the book, with the new header, is that of the file as it is then, the table and the blocks that
+/// stand are the same, and the ledger's file has all segments.
 pub fn a_prepared_file_has_its_book()
     ensures book { (old now : List ℕ) (b : Book) (place : Located) → IsOf old b
         → IsPrepared b.place.head b.space.segments place old now → IsOf now (placed_at b place) }
     ensures table { (old now : List ℕ) (b : Book) (place : Located) → IsOf old b
         → IsPrepared b.place.head b.space.segments place old now
         → table_with_head place.head now ≡ table_with_head b.place.head old }
+    ensures standing { (old now : List ℕ) (b : Book) (place : Located) → IsOf old b
+        → IsPrepared b.place.head b.space.segments place old now
+        → standing_of (view_of place.head now) ≡ standing_of (view_of b.place.head old) }
+    ensures ledger { (old now : List ℕ) (b : Book) (place : Located) (l : Ledger) → IsOf old b
+        → IsPrepared b.place.head b.space.segments place old now
+        → HasLedger old b l → HasLedger now (placed_at b place) (all_filed l) }
 {
     blocks_below();
     stops_below();
