@@ -10,6 +10,7 @@ use Rattle.file_model.specs.Flush.{news, without_olds}
 use Rattle.file_model.specs.GateWrites.{AreWhole}
 use Rattle.book_model.specs.Book.{Book}
 use Rattle.book_model.specs.OfFile.{IsOf, placed_at}
+use Rattle.book_model.specs.LedgerOfFile.{all_filed}
 use Rattle.book_model.specs.Flushing.{bodies_of, old_units}
 use Rattle.book_model.specs.Stopped.{IsPreparing, IsPrepared, IsWriting, IsStopped}
 use Rattle.flush_engine.specs.Below.{IsReady, StopLaws}
@@ -82,6 +83,8 @@ module _ (laws : StopLaws) (b : Book) (place : Located) (segments : ℕ) (all : 
       record {
         of_file = laws.of_flushed y (placed_at b place) able;
         objects = laws.new_behind x y _ b place of (is_prepared x y p) (laws.new y (placed_at b place) able);
+        ledger = λ l has. laws.ledger_flushed y (placed_at b place) (all_filed l) able
+            (laws.ledger_prepared x y b place l of (is_prepared x y p) has);
       }
 
   module _ (old mid : Option (List ℕ)) (of : WhereTold old (λ x. IsOf x b)) where

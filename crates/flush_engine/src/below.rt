@@ -4,7 +4,7 @@ ghost use Rattle.flush_engine.specs.Below.{StopLaws};
 use book_model::file_laws::the_runs_of_a_book_meet_no_block_of_its_file;
 use book_model::flush_laws::{
     a_book_of_a_file_may_be_flushed, after_a_flush_each_key_that_waited_has_its_new_objects,
-    after_a_flush_the_book_is_that_of_the_new_file,
+    after_a_flush_the_book_has_the_flushed_ledger, after_a_flush_the_book_is_that_of_the_new_file,
 };
 use book_model::stop_laws::{
     a_file_may_be_left_as_it_is_or_flushed, a_flush_of_a_prepared_file_is_one_of_the_file,
@@ -27,4 +27,5 @@ pub(crate) fn what_a_flush_leaves()
     a_file_may_be_left_as_it_is_or_flushed();
     after_a_flush_the_book_is_that_of_the_new_file();
     after_a_flush_each_key_that_waited_has_its_new_objects();
+    after_a_flush_the_book_has_the_flushed_ledger();
 }

@@ -12,7 +12,7 @@ ghost use Rattle.book_model.specs.Book.{IsInOrder};
 ghost use Rattle.book_model.specs.OfFile.{IsOf};
 ghost use Rattle.book_model.specs.Stopped.{dirtied, IsStopped};
 ghost use Rattle.flush_engine.specs.Meaning.{book_of};
-ghost use Rattle.flush_engine.specs.Flushed.{HasNewObjects, IsWritten, HasFreed};
+ghost use Rattle.flush_engine.specs.Flushed.{HasNewObjects, FlushesLedger, IsWritten, HasFreed};
 
 use crate::Book;
 use crate::below::what_a_flush_leaves;
@@ -58,6 +58,7 @@ pub fn commit<H: Host>(host: &mut H, book: &mut Book) -> Result<(), DiskFailed>
     requires of_file { WhereTold (H.shows host.old).file (λ f. IsOf f (book_of book.old)) }
     ensures of_file { OnOk result (WhereTold (H.shows host.new).file (λ f. IsOf f (book_of book.new))) }
     ensures objects { OnOk result (Changes (HasNewObjects (book_of book.old) book.new.place) (H.shows host.old).file (H.shows host.new).file) }
+    ensures ledger { OnOk result (Changes (FlushesLedger (book_of book.old) (book_of book.new)) (H.shows host.old).file (H.shows host.new).file) }
     ensures settled { OnOk result (Settled (H.shows host.new)) }
     ensures free { OnOk result ((r : Run) → In r book.old.space.deferred → is_free_run book.new.space r ≡ true) }
     ensures shut { OnOk result (WhereTold (H.shows host.new).file (HasFreed book.old.space book.new.place)) }

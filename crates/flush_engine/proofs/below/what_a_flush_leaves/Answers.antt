@@ -18,4 +18,7 @@ returns c = record {
   writing = λ old now b r w. c.while_blocks_are_written_each_key_has_its_old_or_its_new_objects.ensures old now b r.of_file r.segments r.dirty w;
   of_flushed = λ file b r. c.after_a_flush_the_book_is_that_of_the_new_file.ensures file b r.of_file r.segments;
   new = λ file b r. c.after_a_flush_each_key_that_waited_has_its_new_objects.ensures file b r.of_file r.segments;
+  ledger_as_it_is = c.after_a_flush_the_book_has_the_flushed_ledger.ensures.nothing;
+  ledger_prepared = c.a_prepared_file_has_its_book.ensures.ledger;
+  ledger_flushed = λ file b l r. c.after_a_flush_the_book_has_the_flushed_ledger.ensures.written file b l r.of_file r.segments;
 }
