@@ -9,6 +9,7 @@ use Rattle.std.proofs.lemmas.List.Concat.{length-flat_map}
 use Rattle.std.proofs.lemmas.Bool.Decides.{nat_tests}
 use Rattle.space_model.specs.Sizes.{segment_units}
 use Rattle.file_model.specs.declared.entry.Entry.{Entry}
+use Rattle.file_model.specs.declared.reject.Reject.{Reject}
 use Rattle.file_model.specs.declared.head.Located.{Located}
 use Rattle.file_model.specs.declared.head.Unreadable.{Unreadable}
 use Rattle.file_model.specs.declared.head.Unreadable.TheVariants as unreadable
@@ -58,6 +59,14 @@ read_by (Some u) v = and-false (has_no_rejects v)
 all_there : (f : List ℕ) (l : Located) → l.whole ≡ min l.head.segments (whole_segments segment_units f) → (l.whole == l.head.segments) ≡ has_segments l.head f
 all_there f l e = grind (arith, nat_tests)
 
+-- it needs repair by its header and its rejects
+pub needs_by : (f : List ℕ) (l : Located) (rs : List Reject) → l.whole ≡ min l.head.segments (whole_segments segment_units f)
+    → rs ≡ rejects (view_of l.head f) → (is_dirty l.head.state || not (is_in_order l rs)) ≡ needs_repair l.head f
+needs_by f l rs whole are =
+    ap (λ t. is_dirty l.head.state || not (t && (are_none rs && is_none l.head.index))) (all_there f l whole)
+    ∙ ap (λ r. is_dirty l.head.state || not (has_segments l.head f && (are_none r && is_none l.head.index))) are
+    ∙ ap (λ t. is_dirty l.head.state || not (has_segments l.head f && t)) (read_by l.head.index (view_of l.head f))
+
 module _ (f : List ℕ) (l : Located) (found : Found) (whole : l.whole ≡ min l.head.segments (whole_segments segment_units f))
     (es : found.entries ≡ entries (view_of l.head f)) (rs : found.rejects ≡ rejects (view_of l.head f)) where
   abbrev v : View
@@ -78,10 +87,7 @@ module _ (f : List ℕ) (l : Located) (found : Found) (whole : l.whole ≡ min l
       ∙ ap (λ t. is_dirty l.head.state || (has_segments l.head f && (has_no_rejects v && t))) (listed l.head.index v)
 
   needs : (is_dirty l.head.state || not (is_in_order l found.rejects)) ≡ needs_repair l.head f
-  needs =
-      ap (λ t. is_dirty l.head.state || not (t && (are_none found.rejects && is_none l.head.index))) (all_there f l whole)
-      ∙ ap (λ r. is_dirty l.head.state || not (has_segments l.head f && (are_none r && is_none l.head.index))) rs
-      ∙ ap (λ t. is_dirty l.head.state || not (has_segments l.head f && t)) (read_by l.head.index v)
+  needs = needs_by f l found.rejects whole rs
 
   pub filled : report_with l found ≡ report_of l f
   filled = cc (keys, objects, rs, sound, needs)

@@ -13,7 +13,7 @@ pub use fault::{CheckFault, ScanFault};
 pub use file_model::{Reason, Reject};
 pub use found::Found;
 pub use rejects::Rejects;
-pub use report::{IndexState, Report};
+pub use report::{IndexState, Report, needs_repair};
 pub use scanning::scan;
 pub use slot_table::Entries;
 pub use std::alloc::AllocError as Memory;

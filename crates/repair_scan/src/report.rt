@@ -1,13 +1,16 @@
 //! What a check tells of a file.
-ghost use Rattle.std.specs.Prelude.{◌≡◌, ◌≤◌, ◌<◌, ◌*◌, ◌^◌, length, sum_by};
+ghost use Rattle.std.specs.Prelude.{◌≡◌, ◌≤◌, ◌<◌, ◌*◌, ◌^◌, ◌||◌, not, ℕ, List, length, sum_by, Ok};
 ghost use Rattle.space_model.specs.Sizes.{segment_units};
-ghost use Rattle.file_model.specs.Header.{most_segments};
-ghost use Rattle.file_model.specs.Fit.{is_dirty, index_named};
+ghost use Rattle.file_model.specs.Header.{most_segments, located};
+ghost use Rattle.file_model.specs.View.{view_of};
+ghost use Rattle.file_model.specs.Taken.{rejects as rejects_of};
+ghost use Rattle.file_model.specs.Fit.{is_dirty, index_named, needs_repair};
 ghost use Rattle.repair_scan.specs.Reports.{index_state};
 ghost use Rattle.repair_scan.specs.Filling.{is_in_order, report_with};
 
 use crate::{Entries, Found, Located, Rejects};
 use block_disk::FileState;
+use file_model::laws::a_header_is_located_where_it_is_read;
 use slot_table::Entry;
 
 /// Whether a file has an index, and whether it lists exactly the taken blocks.
@@ -39,17 +42,32 @@ pub(crate) fn report_with(place: Located, found: Found) -> Report
     requires { length found.entries ≤ segment_units * most_segments }
     ensures { result ≡ report_with place found }
 {
-    let dirty = is_dirty(place.head.state);
-    let in_order = is_in_order(&place, &found.rejects);
+    let needs_repair = is_out_of_order(&place, &found.rejects);
     Report {
         located: place,
         keys: found.entries.len() as u32,
         objects: count_objects(&found.entries),
+        sound: is_dirty(place.head.state) || is_in_order(&place, &found.rejects),
         rejects: found.rejects,
         index: index_state(place.head.index),
-        sound: dirty || in_order,
-        needs_repair: dirty || !in_order,
+        needs_repair,
     }
+}
+
+/// Whether a file needs repair, by its header and by the rejects that a scan found.
+pub fn needs_repair(place: &Located, rejects: &Rejects) -> bool
+    ensures { (f : List ℕ) → located f ≡ Ok place.now → rejects.now ≡ rejects_of (view_of place.now.head f)
+        → result ≡ needs_repair place.now.head f }
+{
+    a_header_is_located_where_it_is_read();
+    is_out_of_order(place, rejects)
+}
+
+/// Whether the header is dirty, or not all is in order.
+fn is_out_of_order(place: &Located, rejects: &Rejects) -> bool
+    ensures { result ≡ (is_dirty place.now.head.state || not (is_in_order place.now rejects.now)) }
+{
+    is_dirty(place.head.state) || !is_in_order(place, rejects)
 }
 
 fn is_dirty(state: FileState) -> bool

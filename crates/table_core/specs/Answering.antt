@@ -1,0 +1,101 @@
+-- What an opening answers by the file, which table it gives, and what a stop within it leaves. The refusals are those of
+-- open_file/2 of the dets reference manual, in their order; the faults are this project's own.
+use Rattle.std.specs.Prelude.{◌≡◌, ℕ, Bool, cond, not, ◌&&◌, ◌==◌, List, [], ◌∷◌, Option, Some, None, Result, Ok, Err}
+use Rattle.table_model.specs.Table.{Table, empty_table}
+use Rattle.file_model.specs.declared.head.Head.{Head}
+use Rattle.file_model.specs.declared.head.Located.{Located}
+use Rattle.file_model.specs.declared.head.Unreadable.{Unreadable}
+use Rattle.file_model.specs.declared.head.Unreadable.TheVariants as unreadable
+use Rattle.file_model.specs.Header.{head_of, located}
+use Rattle.file_model.specs.View.{view_of}
+use Rattle.file_model.specs.Taken.{entries, rejects}
+use Rattle.file_model.specs.Fit.{needs_repair}
+use Rattle.block_disk.specs.declared.fault.HeadFault.{HeadFault}
+use Rattle.block_disk.specs.declared.fault.HeadFault.TheVariants as header
+use Rattle.repair_scan.specs.declared.fault.ScanFault.{ScanFault}
+use Rattle.repair_scan.specs.declared.fault.ScanFault.TheVariants as scan
+use Rattle.repair_scan.specs.declared.found.Found.{Found}
+use Rattle.run_model.specs.declared.options.OpenOptions.{OpenOptions}
+use Rattle.run_model.specs.Opening.{can_write, may_repair, is_same_kind}
+use Rattle.store_model.specs.Stores.{table_with}
+use Rattle.store_model.specs.Keeping.{Keeps}
+use Rattle.table_core.specs.declared.open_fault.OpenFault.{OpenFault}
+use Rattle.table_core.specs.declared.open_fault.OpenFault.TheVariants.{Disk, NoFile, NotDets, Version, TypeMismatch, KeyposMismatch, NeedsRepair, Memory}
+
+-- ---- refusals
+
+abbrev pub unreadable_fault : Unreadable → OpenFault
+unreadable_fault unreadable.NotDets = NotDets
+unreadable_fault (unreadable.Version number) = Version number
+
+-- of a header, whatever is behind it
+abbrev pub shape_fault : OpenOptions → Head → Option OpenFault
+shape_fault options h =
+    cond (not (is_same_kind options.kind h.kind)) (Some (TypeMismatch h.kind))
+    (cond (not (options.keypos == h.keypos)) (Some (KeyposMismatch h.keypos)) None)
+
+-- the first of two that is there
+abbrev pub or_else : Option OpenFault → Option OpenFault → Option OpenFault
+or_else None next = next
+or_else (Some fault) next = Some fault
+
+abbrev pub repair_fault : OpenOptions → Bool → Option OpenFault
+repair_fault options needs = cond (needs && not (may_repair options)) (Some NeedsRepair) None
+
+abbrev pub fault_with : OpenOptions → List ℕ → Result Head Unreadable → Option OpenFault
+fault_with options file (Err why) = Some (unreadable_fault why)
+fault_with options file (Ok h) = or_else (shape_fault options h) (repair_fault options (needs_repair h file))
+
+-- the fault of an opening, none where it is not refused
+abbrev pub fault_of_opening : OpenOptions → List ℕ → Option OpenFault
+fault_of_opening options [] = cond (can_write options.access) None (Some NoFile)
+fault_of_opening options (b ∷ bs) = fault_with options (b ∷ bs) (head_of (b ∷ bs))
+
+-- It is answered; Disk and Memory may take the place of any answer.
+abbrev pub IsAnsweredBy : {A : Type 0} → Option OpenFault → Result A OpenFault → Type 0
+IsAnsweredBy fault (Err Disk) = Unit {0}
+IsAnsweredBy fault (Err Memory) = Unit {0}
+IsAnsweredBy None (Ok a) = Unit {0}
+IsAnsweredBy (Some fault) (Ok a) = ⊥
+IsAnsweredBy fault (Err other) = fault ≡ Some other
+
+-- ---- the faults of the calls below
+
+abbrev pub header_fault : HeadFault → OpenFault
+header_fault header.Disk = Disk
+header_fault header.NotDets = NotDets
+header_fault (header.Version number) = Version number
+
+abbrev pub scan_fault : ScanFault → OpenFault
+scan_fault scan.Disk = Disk
+scan_fault scan.Memory = Memory
+
+-- ---- what was read of a file
+
+-- its header where it is, its taken blocks and rejects, and whether it needs repair
+pub record IsRead (place : Located) (found : Found) (needs : Bool) (file : List ℕ) : Type 0 where
+  pub place_is : located file ≡ Ok place
+  pub entries : found.entries ≡ entries (view_of place.head file)
+  pub rejects : found.rejects ≡ rejects (view_of place.head file)
+  pub needs : needs ≡ needs_repair place.head file
+
+-- ---- the table, and what a stop leaves
+
+abbrev pub table_by : OpenOptions → List ℕ → Result Head Unreadable → Table
+table_by options file (Err why) = empty_table options.kind options.keypos
+table_by options file (Ok h) = table_with h file
+
+-- the table of a file that is opened; one without bytes is made
+abbrev pub table_at_opening : OpenOptions → List ℕ → Table
+table_at_opening options [] = empty_table options.kind options.keypos
+table_at_opening options (b ∷ bs) = table_by options (b ∷ bs) (head_of (b ∷ bs))
+
+abbrev pub image_by : List ℕ → Result Head Unreadable → List ℕ → Type 0
+image_by file (Err why) image = image ≡ file
+image_by file (Ok h) image = Keeps h file image
+
+-- What a stop within an opening may leave: nothing is said of a file in the making; a file that cannot be read is as it was; of
+-- another one the table is kept.
+abbrev pub IsOpening : List ℕ → List ℕ → Type 0
+IsOpening [] image = Unit {0}
+IsOpening (b ∷ bs) image = image_by (b ∷ bs) (head_of (b ∷ bs)) image
