@@ -2,3 +2,4 @@
 pub mod Opened
 pub mod Marked
 pub mod Repaired
+pub mod Answered

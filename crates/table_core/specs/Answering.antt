@@ -51,13 +51,16 @@ abbrev pub fault_of_opening : OpenOptions → List ℕ → Option OpenFault
 fault_of_opening options [] = cond (can_write options.access) None (Some NoFile)
 fault_of_opening options (b ∷ bs) = fault_with options (b ∷ bs) (head_of (b ∷ bs))
 
--- It is answered; Disk and Memory may take the place of any answer.
+-- a fault is answered that is there; Disk and Memory may take the place of any answer
+abbrev pub IsFault : Option OpenFault → OpenFault → Type 0
+IsFault there Disk = Unit {0}
+IsFault there Memory = Unit {0}
+IsFault there other = there ≡ Some other
+
+-- the answer where this fault is there, or none
 abbrev pub IsAnsweredBy : {A : Type 0} → Option OpenFault → Result A OpenFault → Type 0
-IsAnsweredBy fault (Err Disk) = Unit {0}
-IsAnsweredBy fault (Err Memory) = Unit {0}
-IsAnsweredBy None (Ok a) = Unit {0}
-IsAnsweredBy (Some fault) (Ok a) = ⊥
-IsAnsweredBy fault (Err other) = fault ≡ Some other
+IsAnsweredBy there (Ok a) = there ≡ None
+IsAnsweredBy there (Err fault) = IsFault there fault
 
 -- ---- the faults of the calls below
 
@@ -77,7 +80,7 @@ pub record IsRead (place : Located) (found : Found) (needs : Bool) (file : List 
   pub place_is : located file ≡ Ok place
   pub entries : found.entries ≡ entries (view_of place.head file)
   pub rejects : found.rejects ≡ rejects (view_of place.head file)
-  pub needs : needs ≡ needs_repair place.head file
+  pub judged : needs ≡ needs_repair place.head file
 
 -- ---- the table, and what a stop leaves
 

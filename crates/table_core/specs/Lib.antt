@@ -1,4 +1,5 @@
 -- The definitions of this crate.
 pub mod Opening
+pub mod Answering
 pub mod Repairing
 pub mod Below

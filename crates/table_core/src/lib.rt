@@ -6,12 +6,16 @@
 
 pub use file_model::Located;
 pub use flush_engine::Book;
+pub use open_fault::OpenFault;
 pub use opening::opened_book;
+pub use run_model::{Access, OpenOptions, Repair};
 pub use slot_table::Entries;
 pub use std::alloc::AllocError as Memory;
 
 mod below;
+mod open_fault;
 mod opening;
+mod reading;
 mod repairing;
 #[cfg(test)]
 mod tests;
