@@ -3,3 +3,4 @@ pub mod Opened
 pub mod Marked
 pub mod Repaired
 pub mod Answered
+pub mod Loaded

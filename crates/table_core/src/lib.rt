@@ -13,6 +13,7 @@ pub use slot_table::Entries;
 pub use std::alloc::AllocError as Memory;
 
 mod below;
+mod loading;
 mod open_fault;
 mod opening;
 mod reading;

@@ -109,6 +109,7 @@ pub fn opened_book(alloc: Global, place: Located, entries: &Entries) -> Result<B
     ensures of_file { IfOk result (λ b. (f : List ℕ) → located f ≡ Ok place → has_segments place.head f ≡ true
         → has_no_rejects (view_of place.head f) ≡ true → entries.now ≡ taken_entries (view_of place.head f) → IsOf f (book_of b)) }
     ensures place { IfOk result (λ b. b.place ≡ place) }
+    ensures segments { IfOk result (λ b. b.space.segments ≡ place.head.segments) }
     ensures waits { IfOk result (λ b. b.cache ≡ []) }
     ensures slots { IfOk result (λ b. length b.directory ≡ max 256 (length entries.now)) }
 {
