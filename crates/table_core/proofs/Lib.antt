@@ -4,3 +4,4 @@ pub mod Marked
 pub mod Repaired
 pub mod Answered
 pub mod Loaded
+pub mod MadeBook

@@ -1,7 +1,7 @@
 -- What an opening answers by the file, which table it gives, and what a stop within it leaves. The refusals are those of
 -- open_file/2 of the dets reference manual, in their order; the faults are this project's own.
 use Rattle.std.specs.Prelude.{◌≡◌, ℕ, Bool, cond, not, ◌&&◌, ◌==◌, List, [], ◌∷◌, Option, Some, None, Result, Ok, Err}
-use Rattle.table_model.specs.Table.{Table, empty_table}
+use Rattle.space_model.specs.Ledger.{opened}
 use Rattle.file_model.specs.declared.head.Head.{Head}
 use Rattle.file_model.specs.declared.head.Located.{Located}
 use Rattle.file_model.specs.declared.head.Unreadable.{Unreadable}
@@ -16,7 +16,11 @@ use Rattle.repair_scan.specs.declared.fault.ScanFault.{ScanFault}
 use Rattle.repair_scan.specs.declared.fault.ScanFault.TheVariants as scan
 use Rattle.repair_scan.specs.declared.found.Found.{Found}
 use Rattle.run_model.specs.declared.options.OpenOptions.{OpenOptions}
+use Rattle.run_model.specs.State.{Kept, File, empty, refused, kept, file_of, made}
 use Rattle.run_model.specs.Opening.{can_write, may_repair, is_same_kind}
+use Rattle.book_model.specs.Book.{Book}
+use Rattle.book_model.specs.LedgerOf.{ledger_of}
+use Rattle.book_model.specs.OfFile.{IsOf, standing_of}
 use Rattle.store_model.specs.Stores.{table_with}
 use Rattle.store_model.specs.Keeping.{Keeps}
 use Rattle.table_core.specs.declared.open_fault.OpenFault.{OpenFault}
@@ -84,14 +88,18 @@ pub record IsRead (place : Located) (found : Found) (needs : Bool) (file : List 
 
 -- ---- the table, and what a stop leaves
 
-abbrev pub table_by : OpenOptions → List ℕ → Result Head Unreadable → Table
-table_by options file (Err why) = empty_table options.kind options.keypos
-table_by options file (Ok h) = table_with h file
+-- what is kept of a file that is opened; one without bytes is made
+abbrev pub kept_at_opening : OpenOptions → File → Kept
+kept_at_opening options empty = made options
+kept_at_opening options (refused why) = made options
+kept_at_opening options (kept k) = k
 
--- the table of a file that is opened; one without bytes is made
-abbrev pub table_at_opening : OpenOptions → List ℕ → Table
-table_at_opening options [] = empty_table options.kind options.keypos
-table_at_opening options (b ∷ bs) = table_by options (b ∷ bs) (head_of (b ∷ bs))
+-- A book is that of the new file, and has the table and the ledger of the old one as it is opened.
+pub record IsOpenedTo (options : OpenOptions) (b : Book) (old new : List ℕ) : Type 0 where
+  pub of_file : IsOf new b
+  pub table : table_with b.place.head new ≡ (kept_at_opening options (file_of old)).table
+  pub ledger : ledger_of (standing_of (view_of b.place.head new)) b
+      ≡ opened (kept_at_opening options (file_of old)).max_segments (kept_at_opening options (file_of old)).segments (kept_at_opening options (file_of old)).standing
 
 abbrev pub image_by : List ℕ → Result Head Unreadable → List ℕ → Type 0
 image_by file (Err why) image = image ≡ file
@@ -102,3 +110,14 @@ image_by file (Ok h) image = Keeps h file image
 abbrev pub IsOpening : List ℕ → List ℕ → Type 0
 IsOpening [] image = Unit {0}
 IsOpening (b ∷ bs) image = image_by (b ∷ bs) (head_of (b ∷ bs)) image
+
+-- the faults that any call may have, and those that tell of the file
+abbrev pub IsFree : OpenFault → Type 0
+IsFree Disk = Unit {0}
+IsFree Memory = Unit {0}
+IsFree other = ⊥
+
+abbrev pub IsRefusal : OpenFault → Type 0
+IsRefusal Disk = ⊥
+IsRefusal Memory = ⊥
+IsRefusal other = Unit {0}

@@ -14,6 +14,7 @@ pub use std::alloc::AllocError as Memory;
 
 mod below;
 mod loading;
+mod open_book;
 mod open_fault;
 mod opening;
 mod reading;

@@ -1,5 +1,5 @@
 //! A file that may be opened is made ready, and its book is made.
-ghost use Rattle.std.specs.Prelude.{◌≡◌, ◌≤◌, ◌<◌, ◌+◌, ◌^◌, Bool, true, [], length, Err, IfOk, OnOk, OnErr};
+ghost use Rattle.std.specs.Prelude.{◌≡◌, ◌≤◌, ◌<◌, ◌+◌, ◌^◌, Bool, true, [], length, Err, IfOk, IfErr, OnOk, OnErr};
 ghost use Rattle.space_model.specs.Sizes.{segment_units};
 ghost use Rattle.host_model.specs.Counts.{Rose};
 ghost use Rattle.host_model.specs.Disk.{WhereTold, Changes};
@@ -12,7 +12,7 @@ ghost use Rattle.repair_scan.specs.Found.{units_of_rejects};
 ghost use Rattle.book_model.specs.Book.{IsInOrder};
 ghost use Rattle.flush_engine.specs.Meaning.{book_of};
 ghost use Rattle.store_model.specs.Keeping.{Keeps};
-ghost use Rattle.table_core.specs.Answering.{IsRead};
+ghost use Rattle.table_core.specs.Answering.{IsRead, IsFree};
 ghost use Rattle.table_core.specs.Repairing.{IsReady, IsLoaded};
 
 use crate::below::what_a_repair_leaves;
@@ -93,6 +93,7 @@ pub(crate) fn load<H: Host>(
     ensures only_disk { OnlyDisk (H.shows host.old) (H.shows host.new) }
     ensures clock { (H.shows host.new).clock ≤ (H.shows host.old).clock + length read.found.rejects + 10 }
 
+    ensures free { IfErr result IsFree }
     ensures cause { result ≡ Err OpenFault.Disk → Rose (H.shows host.old).disk_faults (H.shows host.new).disk_faults }
     ensures ok_faults { (result ≡ Err OpenFault.Disk → ⊥) → (H.shows host.new).disk_faults ≡ (H.shows host.old).disk_faults }
 {
