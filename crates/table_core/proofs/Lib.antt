@@ -5,3 +5,4 @@ pub mod Repaired
 pub mod Answered
 pub mod Loaded
 pub mod MadeBook
+pub mod OpenedFile

@@ -14,6 +14,7 @@ use crate::loading::load;
 use crate::reading::{can_write, read_file};
 use crate::{Book, Entries, OpenFault, opened_book};
 use block_disk::{FileState, Head, make};
+use file_model::laws::a_header_is_located_where_it_is_read;
 use host_model::Host;
 use run_model::{OpenOptions, Repair};
 use std::alloc::Global;
@@ -84,6 +85,7 @@ pub(crate) fn open_book<H: Host>(
     ensures never_falls { (H.shows host.old).disk_faults ≤ (H.shows host.new).disk_faults }
     ensures out_faults { (H.shows host.new).out_faults ≡ (H.shows host.old).out_faults }
 {
+    a_header_is_located_where_it_is_read();
     let len = host.len()?;
     if len == 0 {
         return open_made(alloc, host, options);
