@@ -1,6 +1,8 @@
 //! Why a line has no better answer.
 use dets_term::TermFault;
+use host_model::DiskFailed;
 use key_block::PackFault;
+use repair_scan::ScanFault;
 use std::alloc::AllocError;
 use std::num::ParseIntError;
 use thiserror::Error;
@@ -11,6 +13,9 @@ pub enum Fault {
     /// The line is none of the language, or names a key or an entry twice.
     #[error("bad line")]
     BadLine,
+    /// A call on the file failed, and the table is given up.
+    #[error("failed")]
+    Disk,
     /// There was no memory, and the program ends.
     #[error("out of memory")]
     Memory(#[from(alloc)] AllocError),
@@ -36,6 +41,21 @@ impl From<PackFault> for Fault {
         match error {
             PackFault::Memory => Fault::Memory(AllocError),
             PackFault::TooLarge => Fault::BadLine,
+        }
+    }
+}
+
+impl From<DiskFailed> for Fault {
+    fn from(_failed: DiskFailed) -> Fault {
+        Fault::Disk
+    }
+}
+
+impl From<ScanFault> for Fault {
+    fn from(error: ScanFault) -> Fault {
+        match error {
+            ScanFault::Disk => Fault::Disk,
+            ScanFault::Memory => Fault::Memory(AllocError),
         }
     }
 }

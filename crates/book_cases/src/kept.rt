@@ -1,15 +1,17 @@
 //! The book of a table, in order.
-ghost use Rattle.std.specs.Prelude.{◌≤◌};
 
 use crate::changing::changes_of;
 use crate::fault::Fault;
-use crate::old::old_entry;
+use crate::old::{Sides, old_entry, sides_of};
 use crate::touch::Touch;
+use crate::untold::Untold;
+use block_disk::make;
 use buddy_space::Space;
 use dets_term::{Kind, Memory, Term};
 use etf_codec::encode;
-use file_model::{Entry, FileState, Head, Located};
-use flush_engine::{Book, PlanFault, plan};
+use file_model::{Entry, FileState, Head};
+use flush_engine::{Book, PlanFault, commit, plan};
+use host_model::{DiskFailed, Host};
 use slot_table::Directory;
 use std::alloc::{AllocError, Global};
 use std::marker::Model;
@@ -53,11 +55,11 @@ pub struct Numbers {
 }
 
 impl Kept {
-    /// The book of a set that was just made, with at most so many segments.
-    pub fn new(alloc: Global, most: u32) -> Result<Kept, Memory>
-        requires least { 1 ≤ most }
-        requires most { most ≤ 8000 }
-    {
+    /// Makes the file of a set with at most so many segments, and its book. `BadLine` where no file may have so many.
+    pub fn new<H: Host>(alloc: Global, host: &mut Untold<H>, most: u32) -> Result<Kept, Fault> {
+        if most < 1 || most > 8000 {
+            return Err(Fault::BadLine);
+        }
         let head = Head {
             version: 1,
             state: FileState::Closed,
@@ -67,12 +69,7 @@ impl Kept {
             max_segments: most,
             index: None,
         };
-        let place = Located {
-            head,
-            second: false,
-            other_gate: false,
-            whole: 0,
-        };
+        let place = make(host, head)?;
         Ok(Kept {
             book: Book {
                 place,
@@ -89,7 +86,7 @@ impl Kept {
         let changes = match changes_of(alloc, &book, touches) {
             Ok(changes) => changes,
             Err(Fault::Memory(memory)) => return Err(memory),
-            Err(Fault::BadLine) => return Ok((Kept { book }, Outcome::BadLine)),
+            Err(_) => return Ok((Kept { book }, Outcome::BadLine)),
         };
         match plan(alloc, &mut book, changes) {
             Ok(()) => Ok((Kept { book }, Outcome::Planned)),
@@ -98,17 +95,23 @@ impl Kept {
         }
     }
 
-    /// What a flush makes of the book.
-    pub fn flush(&mut self) {
-        self.book.space.settle();
-        self.book.cache.clear();
-        self.book.place.head.segments = self.book.space.segments();
+    /// Flushes what waits to the file. A book whose flush failed is given up.
+    pub fn flush<H: Host>(self, host: &mut Untold<H>) -> Result<Kept, DiskFailed> {
+        let Kept { mut book } = self;
+        commit(host, &mut book)?;
+        Ok(Kept { book })
     }
 
     /// What is known of the block of a key.
     pub fn known(&self, alloc: Global, key: &Term) -> Result<Option<Entry>, Memory> {
         let spelled = encode(alloc, key)?;
         Ok(old_entry(&self.book, spelled.as_slice()))
+    }
+
+    /// What a key has before the next flush and after it.
+    pub fn sides(&self, alloc: Global, key: &Term) -> Result<Sides, Memory> {
+        let spelled = encode(alloc, key)?;
+        Ok(sides_of(&self.book, spelled.as_slice()))
     }
 
     pub fn numbers(&self) -> Numbers {

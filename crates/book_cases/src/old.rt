@@ -27,6 +27,27 @@ pub fn old_entry(book: &Book, key: &[u8]) -> Option<Entry>
     }
 }
 
+/// The hash of a key, and the entries of its blocks in the file before the next flush and after it.
+#[derive(Clone, Copy)]
+pub struct Sides {
+    pub hash: u32,
+    pub before: Option<Entry>,
+    pub after: Option<Entry>,
+}
+
+pub fn sides_of(book: &Book, key: &[u8]) -> Sides {
+    let after = old_entry(book, key);
+    let before = match book.cache.get(key) {
+        Some(state) => state.old,
+        None => after,
+    };
+    Sides {
+        hash: hash_bytes(key),
+        before,
+        after,
+    }
+}
+
 /// The entry of the pending block of a key, if it has one.
 fn pending_entry(state: &Pending) -> Option<Entry>
     ensures { result ≡ pending_entry state.now }
