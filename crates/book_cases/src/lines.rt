@@ -121,19 +121,23 @@ impl Block {
         stops(self.alloc, self.row()?, pick, names)
     }
 
+    /// What a command is answered whose block of this exponent has no place.
     fn full(&self, exp: u8) -> Result<String, Fault> {
         let numbers = self.numbers()?;
         Ok(format!(in self.alloc; "full {exp}; {numbers}")?)
     }
 
+    /// The numbers of the book.
     fn numbers(&self) -> Result<String, Fault> {
         Ok(numbers_text(self.alloc, self.kept()?.numbers())?)
     }
 
+    /// The book of the block's table.
     fn kept(&self) -> Result<&Kept, Fault> {
         Ok(self.table.as_ref().ok_or(Fault::BadLine)?.kept())
     }
 
+    /// What the lines did to it.
     fn row(&mut self) -> Result<&mut Row, Fault> {
         self.row.as_mut().ok_or(Fault::BadLine)
     }

@@ -35,6 +35,7 @@ pub struct Sides {
     pub after: Option<Entry>,
 }
 
+/// What a key has before the next flush and after it.
 pub fn sides_of(book: &Book, key: &[u8]) -> Sides {
     let after = old_entry(book, key);
     let before = match book.cache.get(key) {

@@ -21,6 +21,7 @@ pub struct Row {
 }
 
 impl Row {
+    /// The row of a table that was just made.
     pub fn new(alloc: Global, most: u32) -> Row {
         Row {
             alloc,
@@ -35,6 +36,7 @@ impl Row {
         Ok(())
     }
 
+    /// What waited was flushed.
     pub fn flushed(&mut self) -> Result<(), Memory> {
         self.steps.push(Step::Flush)?;
         Ok(())
@@ -50,6 +52,7 @@ impl Row {
     }
 }
 
+/// The table behind one step more.
 fn after(alloc: Global, table: Table, step: &Step) -> Result<Table, Fault> {
     match step {
         Step::Plan(touches) => {

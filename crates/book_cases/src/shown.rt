@@ -12,6 +12,7 @@ pub fn entry_text(alloc: Global, name: &str, entry: Option<Entry>) -> Result<Str
     }
 }
 
+/// The numbers of a book.
 pub fn numbers_text(alloc: Global, numbers: Numbers) -> Result<String, Memory> {
     let Numbers {
         segments,

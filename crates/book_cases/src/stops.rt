@@ -27,8 +27,8 @@ struct Tallies {
     others: u64,
 }
 
-/// What a flush leaves which is stopped after 0 calls, after 1, and so on until it succeeds: the tally of each key, and how
-/// many stops there were, each with one image.
+/// What the next flush of the table of a row leaves where it is stopped after 0 calls, after 1, and so on until it succeeds:
+/// the tally of each key, and how many stops there were. Each has one image.
 pub fn stops(alloc: Global, row: &Row, pick: Pick, names: &str) -> Result<String, Fault> {
     let mut tallies = Tallies::new(alloc, row.table()?.kept(), names)?;
     for calls in 0..u64::MAX {
@@ -42,6 +42,7 @@ pub fn stops(alloc: Global, row: &Row, pick: Pick, names: &str) -> Result<String
 }
 
 impl Tallies {
+    /// The tallies of the keys with these names, before any image.
     fn new(alloc: Global, kept: &Kept, names: &str) -> Result<Tallies, Fault> {
         let mut keys = Vec::new(alloc);
         for name in names.split_whitespace() {
@@ -68,6 +69,7 @@ impl Tallies {
         Ok(())
     }
 
+    /// Counts an image with these blocks.
     fn count(&mut self, entries: &Entries) {
         let mut known: usize = 0;
         for tally in self.keys.iter_mut() {
@@ -80,12 +82,14 @@ impl Tallies {
         }
     }
 
+    /// Counts an image without a header.
     fn count_lost(&mut self) {
         for tally in self.keys.iter_mut() {
             tally.lost = tally.lost.saturating_add(1);
         }
     }
 
+    /// The tally of each key, and how many stops there were.
     fn text(&self, alloc: Global, stops: u64) -> Result<String, Memory> {
         let mut text = String::new(alloc);
         for tally in &self.keys {
@@ -114,6 +118,7 @@ impl Tally {
         found.is_some()
     }
 
+    /// The tally of the key, and the mark behind it.
     fn text(&self, alloc: Global) -> Result<String, Memory> {
         let Tally {
             name,

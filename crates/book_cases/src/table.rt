@@ -22,6 +22,7 @@ impl Table {
         Ok(Table { host, kept })
     }
 
+    /// Its book.
     pub fn kept(&self) -> &Kept {
         &self.kept
     }
@@ -40,7 +41,8 @@ impl Table {
         Ok(Table { host, kept })
     }
 
-    /// Flushes what waits with so many calls, all others fail. What holds the file then, and whether the flush succeeded.
+    /// Flushes what waits; so many calls of `Host` are passed on, and all others fail. The host with the file as they left it,
+    /// and whether the flush succeeded.
     pub fn flush_by(self, calls: u64) -> (MemHost, bool) {
         let Table { host, kept } = self;
         let mut fused = Untold::new(FuseHost::new(host.into_inner(), calls));

@@ -16,6 +16,7 @@ pub struct Untold<H> {
 }
 
 impl<H: Host> Untold<H> {
+    /// Over a host, with no fault yet.
     pub fn new(inner: H) -> Untold<H> {
         Untold {
             inner,
