@@ -1,6 +1,6 @@
 -- A file that is read is ready to be opened, once it was repaired where it needs that.
-use Rattle.std.proofs.Common.{◌≡◌, ◌≤◌, ℕ, Bool, true, false, ◌&&◌, ◌||◌, List, map, Ok, refl, sym, ap, ◌∙◌, subst, arith}
-use Rattle.std.specs.Prelude.{not, min}
+use Rattle.std.proofs.Common.{◌≡◌, ℕ, Bool, true, false, ◌&&◌, List, map, Ok, refl, sym, ap, ◌∙◌, subst, arith}
+use Rattle.std.specs.Prelude.{not}
 use Rattle.std.proofs.lemmas.Bool.{and_parts, or_parts, leb-true}
 use Rattle.space_model.specs.Sizes.{segment_units}
 use Rattle.file_model.specs.declared.entry.Entry.{Entry}
@@ -10,7 +10,7 @@ use Rattle.file_model.specs.Layout.{whole_segments}
 use Rattle.file_model.specs.Header.{located}
 use Rattle.file_model.specs.View.{View, view_of}
 use Rattle.file_model.specs.Taken.{entry_of, entries}
-use Rattle.file_model.specs.Fit.{is_dirty, has_segments, has_no_rejects, Index, Absent, BadChain, index_of_file, can_be_read, needs_repair}
+use Rattle.file_model.specs.Fit.{is_dirty, has_segments, has_no_rejects, Index, Absent, BadChain, index_of_file, can_be_read}
 use Rattle.repair_scan.specs.declared.found.Found.{Found}
 use Rattle.book_model.specs.Book.{Book}
 use Rattle.book_model.specs.OfFile.{IsOf}

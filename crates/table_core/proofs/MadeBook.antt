@@ -1,5 +1,5 @@
 -- A file that was just made has no block, and its book has nothing.
-use Rattle.std.proofs.Common.{◌≡◌, ◌≤◌, ◌*◌, ℕ, true, List, [], map, Ok, refl, sym, ap, ◌∙◌, subst, arith}
+use Rattle.std.proofs.Common.{◌≡◌, ◌*◌, ℕ, true, List, [], map, sym, ap, ◌∙◌, subst, arith}
 use Rattle.std.specs.Prelude.{min}
 use Rattle.std.proofs.lemmas.Bool.{le-leb}
 use Rattle.space_model.specs.Sizes.{segment_units}
@@ -11,7 +11,6 @@ use Rattle.file_model.specs.declared.entry.Entry.{Entry}
 use Rattle.file_model.specs.declared.head.Head.{Head}
 use Rattle.file_model.specs.declared.head.Located.{Located}
 use Rattle.file_model.specs.Layout.{whole_segments, gate_at, is_open_at}
-use Rattle.file_model.specs.Header.{located}
 use Rattle.file_model.specs.Block.{stands_at}
 use Rattle.file_model.specs.View.{OpenUnit, open_from, view_of}
 use Rattle.file_model.specs.Taken.{taken_above, rejects_above, entry_of, entries, objects_in}

@@ -1,5 +1,5 @@
 -- The header of a file is changed for its repair, and all else shows what it showed.
-use Rattle.std.proofs.Common.{◌≡◌, ◌≤◌, ◌*◌, ⊎_elim, ℕ, Bool, true, false, ◌&&◌, ◌||◌, List, [], length, Option, Some, None, Ok, refl, sym, ap, ◌∙◌, subst, arith}
+use Rattle.std.proofs.Common.{◌≡◌, ◌≤◌, ◌*◌, ⊎_elim, ℕ, true, false, ◌&&◌, ◌||◌, List, [], length, Ok, refl, sym, ap, ◌∙◌, subst, arith}
 use Rattle.std.specs.Prelude.{min, nat_le}
 use Rattle.std.proofs.lemmas.Bool.{le-leb}
 use Rattle.space_model.specs.Sizes.{segment_units}
@@ -7,13 +7,12 @@ use Rattle.host_model.specs.Disk.{range, in_doubt, DiffersIn}
 use Rattle.host_model.specs.Torn.{alone, is_in-above}
 use Rattle.file_model.specs.declared.head.Head.{Head}
 use Rattle.file_model.specs.declared.head.Located.{Located}
-use Rattle.file_model.specs.declared.head.FileState.TheVariants.{Dirty}
 use Rattle.file_model.specs.Layout.{page_size, segments_within, whole_segments, gate_at, is_open_at}
-use Rattle.file_model.specs.Header.{segments_in, segments_of, head_of, located}
+use Rattle.file_model.specs.Header.{segments_of, head_of, located}
 use Rattle.file_model.specs.Block.{stands_at}
 use Rattle.file_model.specs.View.{View, open_from, view_of}
 use Rattle.file_model.specs.Taken.{taken_above, objects_in, table_of}
-use Rattle.file_model.specs.Fit.{is_dirty, has_segments, has_no_rejects, index_named, lists_taken, is_sound, IsSound}
+use Rattle.file_model.specs.Fit.{is_dirty, has_segments, has_no_rejects, index_named, lists_taken, is_sound}
 use Rattle.block_disk.specs.Places.{the_page}
 use Rattle.block_disk.specs.Copies.{HasEither}
 use Rattle.book_model.specs.Stopped.{dirtied}

@@ -1,30 +1,29 @@
 -- The blocks of a file come into a book, and the book is that of the file then.
-use Rattle.std.proofs.Common.{◌≡◌, ◌≤◌, ◌<◌, ◌-◌, ◌⊎◌, inl, inr, ⊎_elim, ℕ, ◌+◌, ◌*◌, ◌^◌, ◌%◌, ◌/◌, ◌==◌, Bool, true, false, cond, List, [], ◌∷◌, ◌++◌, length, Ok, refl, sym, ap, ◌∙◌, subst, arith}
+use Rattle.std.proofs.Common.{◌≡◌, ◌≤◌, ◌<◌, ◌-◌, inl, inr, ⊎_elim, ℕ, ◌+◌, ◌*◌, ◌^◌, ◌%◌, ◌/◌, ◌==◌, Bool, true, false, cond, List, [], ◌∷◌, ◌++◌, length, Ok, refl, sym, ap, ◌∙◌, subst, arith}
 use Rattle.std.specs.Prelude.{◌&&◌, nat_le}
 use Rattle.std.proofs.lemmas.Bool.{and_parts, and_from, le-leb, leb-true, both_ways, cases_lt}
 use Rattle.std.proofs.Math.Pow.{pow_mono}
 use Rattle.std.proofs.lemmas.Nat.{pow_pos}
-use Rattle.space_model.specs.Sizes.{segment_units, unit_size}
+use Rattle.space_model.specs.Sizes.{segment_units}
 use Rattle.space_model.specs.Runs.{Run}
 use Rattle.space_model.specs.Apart.{In, Pairs, SameMembers, Apart, IsRun}
-use Rattle.space_model.proofs.Members.{in_front, in_behind, pairs_front, pairs_cross}
+use Rattle.space_model.proofs.Members.{in_front, pairs_front, pairs_cross}
 use Rattle.file_model.specs.declared.entry.Entry.{Entry}
 use Rattle.file_model.specs.declared.head.Head.{Head}
-use Rattle.file_model.specs.declared.head.Located.{Located}
 use Rattle.file_model.specs.Header.{the_version, most_segments, units_per_segment, may_name, is_allowed, located}
 use Rattle.file_model.specs.Block.{Block, standing}
 use Rattle.file_model.specs.LayoutLaws.{EndsInSegment}
 use Rattle.file_model.specs.Stands.{StandsAligned}
-use Rattle.file_model.specs.View.{View, view_of, units_of}
+use Rattle.file_model.specs.View.{view_of, units_of}
 use Rattle.file_model.specs.Taken.{taken, entry_of, entries}
-use Rattle.file_model.specs.Fit.{has_segments, has_no_rejects}
+use Rattle.file_model.specs.Fit.{has_no_rejects}
 use Rattle.write_cache.specs.Waiting.{Waiting}
 use Rattle.buddy_space.specs.SpaceState.{SpaceState, units, held, largest_exp, IsParted, is_free_run, taking}
 use Rattle.buddy_space.proofs.States.{run_is_free, free_is_apart, in_taking, taking_in}
 use Rattle.slot_table.specs.BySlot.{Slot, BySlot, by_slot, entries_in, with_entry, LacksUnit, IsDirectory}
 use Rattle.slot_table.proofs.Entering.{in_added, added_old, added_new}
-use Rattle.book_model.specs.Book.{Book, entry_run, entry_runs, pending_entries, olds_of, OtherUnit, MeetsNot, IsInOrder}
-use Rattle.book_model.specs.OfFile.{IsOf, IsOpened}
+use Rattle.book_model.specs.Book.{entry_run, entry_runs, pending_entries, olds_of, OtherUnit, MeetsNot, IsInOrder}
+use Rattle.book_model.specs.OfFile.{IsOpened}
 use Rattle.book_model.specs.Below.{BlockLaws}
 use Rattle.book_model.proofs.Members.{append_in, in_append, map_in, in_map, pairs_also}
 use Rattle.book_model.proofs.Blocks.{taken_stands}

@@ -1,17 +1,16 @@
 -- A file that was loaded is opened as the definition says.
 use Rattle.std.proofs.Common.{◌≡◌, ◌∙◌, ℕ, List, [], ◌∷◌, map, length, Result, Ok, Err, refl, sym, ap, subst}
 use Rattle.std.specs.Prelude.{IfOk}
-use Rattle.host_model.specs.Host.{Shown, Rests, Settled, LeavesOnly}
-use Rattle.host_model.specs.Leaves.{leaves_then, leaves_weaker, leaves_by_rest, settled_by_rest}
+use Rattle.host_model.specs.Host.{Shown, Rests}
+use Rattle.host_model.specs.Leaves.{leaves_then, leaves_weaker, leaves_by_rest}
 use Rattle.host_model.specs.Images.{HasImage, LeavesImages, images_weaker}
 use Rattle.file_model.specs.declared.head.Head.{Head}
-use Rattle.file_model.specs.Header.{head_of, segments_of}
-use Rattle.file_model.specs.View.{view_of}
+use Rattle.file_model.specs.Header.{head_of}
 use Rattle.file_model.specs.Taken.{objects_in}
 use Rattle.space_model.specs.Ledger.{opened}
 use Rattle.write_cache.specs.Waiting.{ledger_of as pending_of}
 use Rattle.run_model.specs.declared.options.OpenOptions.{OpenOptions}
-use Rattle.run_model.specs.State.{File, kept, kept_in, file_with, file_of}
+use Rattle.run_model.specs.State.{kept, kept_in, file_with, file_of}
 use Rattle.book_model.specs.Book.{Book}
 use Rattle.book_model.specs.OfFile.{standing_block}
 use Rattle.store_model.specs.Keeping.{Keeps}

@@ -1,6 +1,5 @@
 -- The gates of the rejects of a file are closed, once its header says that it is dirty.
 use Rattle.std.proofs.Common.{◌≡◌, ◌≤◌, ℕ, true, List, [], Option, Ok, sym, ap, ◌∙◌, arith}
-use Rattle.std.specs.Prelude.{min}
 use Rattle.std.proofs.lemmas.Bool.{le-leb, leb-true}
 use Rattle.space_model.specs.Sizes.{segment_units}
 use Rattle.host_model.specs.Disk.{WhereTold, Changes}
@@ -11,8 +10,8 @@ use Rattle.file_model.specs.declared.reject.Reject.{Reject}
 use Rattle.file_model.specs.Layout.{whole_segments}
 use Rattle.file_model.specs.Header.{head_of, located}
 use Rattle.file_model.specs.View.{view_of}
-use Rattle.file_model.specs.Taken.{taken, taken_above, rejects, rejects_above}
-use Rattle.file_model.specs.Fit.{has_segments, has_no_rejects}
+use Rattle.file_model.specs.Taken.{taken_above, rejects, rejects_above}
+use Rattle.file_model.specs.Fit.{has_no_rejects}
 use Rattle.repair_scan.specs.Found.{KeepsTable}
 use Rattle.store_model.specs.Keeping.{Keeps}
 use Rattle.table_core.specs.Repairing.{IsMarked, IsRepaired}

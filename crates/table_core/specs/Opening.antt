@@ -1,5 +1,5 @@
 -- The blocks of a file come into a book, one after the other. This project's own.
-use Rattle.std.specs.Prelude.{◌≡◌, ◌≤◌, ℕ, ◌*◌, ◌&&◌, Bool, true, nat_le, if◌then◌else◌, List, [], ◌∷◌}
+use Rattle.std.specs.Prelude.{◌≡◌, ℕ, ◌*◌, ◌&&◌, Bool, nat_le, if◌then◌else◌, List, []}
 use Rattle.space_model.specs.Sizes.{segment_units}
 use Rattle.space_model.specs.Apart.{In, Pairs, SameMembers, IsRun}
 use Rattle.file_model.specs.declared.entry.Entry.{Entry}

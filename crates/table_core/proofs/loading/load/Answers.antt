@@ -1,6 +1,6 @@
 use Rattle.std.proofs.Common.{◌≡◌, ◌∙◌, ℕ, List, Some, refl, sym, ap, subst}
-use Rattle.host_model.specs.Disk.{WhereTold, Changes}
-use Rattle.host_model.specs.Host.{Shown, Settled}
+use Rattle.host_model.specs.Disk.{WhereTold}
+use Rattle.host_model.specs.Host.{Shown}
 use Rattle.host_model.specs.Images.{LeavesImages, images_weaker, images_then}
 use Rattle.file_model.specs.declared.head.Head.{Head}
 use Rattle.repair_scan.specs.declared.found.Found.{Found}

@@ -1,6 +1,5 @@
-use Rattle.std.proofs.Common.{◌≡◌, ◌∙◌, ℕ, List, []}
+use Rattle.std.proofs.Common.{◌≡◌, ◌∙◌, []}
 use Rattle.host_model.specs.Disk.{Changes}
-use Rattle.host_model.specs.Host.{Rests}
 use Rattle.host_model.specs.Leaves.{settled_by_rest}
 use Rattle.flush_engine.specs.declared.book.Book.{Book as KeptBook}
 use Rattle.flush_engine.specs.Meaning.{book_of}

@@ -1,4 +1,4 @@
-use Rattle.std.proofs.Common.{◌≡◌, ◌∙◌, ℕ, List, sym, ap, subst}
+use Rattle.std.proofs.Common.{◌∙◌, sym, ap, subst}
 use Rattle.file_model.specs.declared.head.Head.{Head}
 use Rattle.flush_engine.specs.Meaning.{book_of}
 use Rattle.table_core.specs.Answering.{IsOpenedTo}

@@ -1,6 +1,5 @@
-use Rattle.std.proofs.Common.{◌≡◌, [], sym, subst, ap, ◌∙◌, arith}
-use Rattle.file_model.specs.declared.entry.Entry.{Entry}
-use Rattle.slot_table.specs.BySlot.{BySlot, by_slot, entries_in, LacksUnit}
+use Rattle.std.proofs.Common.{[], sym, subst, ◌∙◌, arith}
+use Rattle.slot_table.specs.BySlot.{BySlot, by_slot, LacksUnit}
 use Rattle.slot_table.proofs.Steps.{room_first}
 use Rattle.slot_table.proofs.Tables.{length-by_slot}
 use Rattle.table_core.proofs.Opened.{lacks_unit}

@@ -1,10 +1,10 @@
-use Rattle.std.proofs.Common.{◌≡◌, ℕ, List, Ok, Err, ap, sym, ◌∙◌, subst}
+use Rattle.std.proofs.Common.{◌≡◌, ℕ, List, Ok, Err, ap, sym, ◌∙◌}
 use Rattle.std.proofs.lemmas.Result.{err_from_is_err_and}
 use Rattle.file_model.specs.declared.head.Located.{Located}
 use Rattle.file_model.specs.Header.{head_of}
 use Rattle.file_model.specs.Fit.{needs_repair}
 use Rattle.run_model.specs.declared.options.OpenOptions.{OpenOptions}
-use Rattle.table_core.specs.Answering.{shape_fault, or_else, repair_fault, fault_with, header_fault}
+use Rattle.table_core.specs.Answering.{shape_fault, or_else, repair_fault, fault_with}
 use Rattle.table_core.proofs.Answered.{by_header, by_first, by_second}
 use Rattle.table_core.proofs.reading.read_file.Goals as goal
 

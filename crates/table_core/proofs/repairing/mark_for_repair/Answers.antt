@@ -1,4 +1,4 @@
-use Rattle.std.proofs.Common.{◌≡◌, ◌∙◌, Ok}
+use Rattle.std.proofs.Common.{◌≡◌, Ok}
 use Rattle.host_model.specs.Images.{images_weaker}
 use Rattle.file_model.specs.Header.{located}
 use Rattle.block_disk.specs.Copies.{HasEither}
