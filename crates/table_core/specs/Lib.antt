@@ -1,5 +1,6 @@
 -- The definitions of this crate.
 pub mod Opening
+pub mod TableState
 pub mod Answering
 pub mod Repairing
 pub mod Below

@@ -11,6 +11,7 @@ pub use opening::opened_book;
 pub use run_model::{Access, OpenOptions, Repair};
 pub use slot_table::Entries;
 pub use std::alloc::AllocError as Memory;
+pub use table::Table;
 
 mod below;
 mod loading;
@@ -19,5 +20,6 @@ mod open_fault;
 mod opening;
 mod reading;
 mod repairing;
+mod table;
 #[cfg(test)]
 mod tests;
