@@ -1,7 +1,8 @@
 //! A table over its file.
 //!
-//! Stands on `flush_engine` for the book of a file and its flush, and on `slot_table`, `buddy_space` and `write_cache`, which
-//! keep the parts of a book. So far `opened_book` gives the book of a file that was just scanned.
+//! Stands on `flush_engine` for the book of a file and its flush, on `repair_scan` for what a file holds, and on `slot_table`,
+//! `buddy_space` and `write_cache`, which keep the parts of a book. A `Table` is opened by `open_table`, which makes the file,
+//! refuses it or repairs it, and at each moment keeps its table; `opened_book` gives the book of a file that was scanned.
 #![tactic(auto)]
 
 pub use file_model::Located;

@@ -35,11 +35,7 @@ fn new_head(options: &OpenOptions) -> Head
 }
 
 /// Makes a file where there are no bytes, unless it is opened to be read, and gives its book.
-fn open_made<H: Host>(
-    alloc: Global,
-    host: &mut H,
-    options: &OpenOptions,
-) -> Result<Book, OpenFault>
+fn open_made<H: Host>(alloc: Global, host: &mut H, options: &OpenOptions) -> Result<Book, OpenFault>
     requires allowed { is_allowed (new_head options.now) ≡ true }
     requires empty { WhereTold (H.shows host.old).file (λ f. f ≡ []) }
     ensures answer { WhereTold (H.shows host.old).file (λ f. IsAnsweredBy (fault_of_opening options.now f) result) }

@@ -53,7 +53,9 @@ fn is_same_kind(one: Kind, other: Kind) -> bool
     ensures { result ≡ is_same_kind one other }
 {
     match (one, other) {
-        (Kind::Set, Kind::Set) | (Kind::Bag, Kind::Bag) | (Kind::DuplicateBag, Kind::DuplicateBag) => true,
+        (Kind::Set, Kind::Set)
+        | (Kind::Bag, Kind::Bag)
+        | (Kind::DuplicateBag, Kind::DuplicateBag) => true,
         _ => false,
     }
 }

@@ -1,7 +1,9 @@
-// What no clause says: that a call succeeds where memory is there.
-use crate::{Entries, Located, opened_book};
+// What no clause says: that calls succeed where memory is there.
+use crate::{Access, Entries, Located, OpenFault, OpenOptions, Repair, Table, opened_book};
 use dets_term::Kind;
 use file_model::{Entry, FileState, Head};
+use host_model::MemHost;
+use std::alloc::Global;
 use std::test::Fail;
 
 #[test]
@@ -34,5 +36,46 @@ fn the_blocks_of_a_file_are_entered(rt: HostRuntime) -> Result<(), Fail> {
     assert_eq!(rt; book.directory.objects(), 3);
     assert!(rt; !book.space.claim(127, 0));
     assert!(rt; book.space.claim(128, 0));
+    Ok(())
+}
+
+// The answer to an opening of a file, as a word.
+fn opening(alloc: Global, host: &mut MemHost, kind: Kind, access: Access) -> &'static str {
+    let options = OpenOptions {
+        kind,
+        keypos: 1,
+        access,
+        repair: Repair::Yes,
+        max_segments: 8000,
+    };
+    match Table::open_table(alloc, host, options) {
+        Ok(table) if table.keys() == 0 && !table.failed() => "opened",
+        Ok(_) => "filled",
+        Err(OpenFault::NoFile) => "no file",
+        Err(OpenFault::TypeMismatch(Kind::Set)) => "a set",
+        Err(_) => "another fault",
+    }
+}
+
+#[test]
+fn a_table_is_made_and_opened_again(rt: HostRuntime) -> Result<(), Fail> {
+    let mut host = MemHost::new(rt.alloc(), &[], &[])?;
+    assert_eq!(rt;
+        opening(rt.alloc(), &mut host, Kind::Set, Access::Read),
+        "no file"
+    );
+    assert_eq!(rt; host.moments(), 0);
+    assert_eq!(rt;
+        opening(rt.alloc(), &mut host, Kind::Set, Access::ReadWrite),
+        "opened"
+    );
+    assert_eq!(rt;
+        opening(rt.alloc(), &mut host, Kind::Bag, Access::ReadWrite),
+        "a set"
+    );
+    assert_eq!(rt;
+        opening(rt.alloc(), &mut host, Kind::Set, Access::Read),
+        "opened"
+    );
     Ok(())
 }

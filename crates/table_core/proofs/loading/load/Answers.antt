@@ -53,10 +53,13 @@ returns-clause-loaded g c =
     let ready = c.in_ok-repair_where_needed.ensures.ready in
     record {
       told = λ f told.
-          let t = ready.told f (c.settle.ensures.file ∙ told) in
-          (t.0, t.1, loaded h q f t.0 (book_of c.in_ok-opened_book.field-0) c.repair_where_needed.new.read.found.entries t.2
-          c.in_ok-opened_book.ensures.place c.in_ok-opened_book.ensures.segments
-          (ap (λ (x : Found). x.entries) c.repair_where_needed.ensures.found ∙ (c.requires.read f told).entries)
-          c.in_ok-opened_book.ensures.of_file);
+          let t = ready.told f (c.settle.ensures.file ∙ told) in (
+            t.0,
+            t.1,
+            loaded h q f t.0 (book_of c.in_ok-opened_book.field-0) c.repair_where_needed.new.read.found.entries t.2
+                c.in_ok-opened_book.ensures.place c.in_ok-opened_book.ensures.segments
+                (ap (λ (x : Found). x.entries) c.repair_where_needed.ensures.found ∙ (c.requires.read f told).entries)
+                c.in_ok-opened_book.ensures.of_file,
+          );
       untold = λ none. ready.untold (c.settle.ensures.file ∙ none);
     }

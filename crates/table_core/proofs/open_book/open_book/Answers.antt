@@ -21,10 +21,13 @@ returns-clause-opened g c =
     (λ b loaded waits. record {
       told = λ f told.
           let t = loaded.told f (same ∙ told) in
-          let read = (c.in_ok-read.ensures.found f (c.len.ensures.rests.file ∙ told)).place_is in
-          (t.0, t.1, opened_file options place.head f t.0 (book_of b)
-          (λ none. c.if-len-eq0.false (c.in_ok-len.ensures.length f told ∙ none))
-          (c.a_header_is_located_where_it_is_read.ensures.head f place read).0 t.2 waits);
+          let read = (c.in_ok-read.ensures.found f (c.len.ensures.rests.file ∙ told)).place_is in (
+            t.0,
+            t.1,
+            opened_file options place.head f t.0 (book_of b)
+                (λ none. c.if-len-eq0.false (c.in_ok-len.ensures.length f told ∙ none))
+                (c.a_header_is_located_where_it_is_read.ensures.head f place read).0 t.2 waits,
+          );
       untold = λ none. loaded.untold (same ∙ none);
     })
     c.load.ensures.loaded c.load.ensures.waits

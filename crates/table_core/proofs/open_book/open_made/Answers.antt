@@ -20,9 +20,9 @@ returns-clause-opened g c =
       told = λ f told.
           let t = c.make.ensures.tearing.file.told f told in
           let made = opened_made c.args.options.now q t.0 (book_of b) head c.in_ok-opened_book.ensures.place
-              c.in_ok-opened_book.ensures.segments c.in_ok-opened_book.ensures.waits
-              (c.in_ok-opened_book.ensures.of_file t.0 (c.in_ok-place.ensures.found t.0 t.1) (all_there q.head t.0 none)
-              (none_rejected q.head t.0 none) (no_entries q.head t.0 none _ c.new.ensures)) in
+          c.in_ok-opened_book.ensures.segments c.in_ok-opened_book.ensures.waits
+          (c.in_ok-opened_book.ensures.of_file t.0 (c.in_ok-place.ensures.found t.0 t.1) (all_there q.head t.0 none)
+          (none_rejected q.head t.0 none) (no_entries q.head t.0 none _ c.new.ensures)) in
           (t.0, t.1, subst (λ x. IsOpenedTo c.args.options.now (book_of b) x t.0) (sym (c.requires.empty f told)) made);
       untold = c.make.ensures.tearing.file.untold;
     }

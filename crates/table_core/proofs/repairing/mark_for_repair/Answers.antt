@@ -39,9 +39,12 @@ returns-in_ok-mark_dirty-clause-file g c =
 pub returns-in_ok-mark_dirty-clause-marked : goal.returns-in_ok-mark_dirty-clause-marked
 returns-in_ok-mark_dirty-clause-marked g c = record {
   told = λ f told.
-      let t = c.mark_dirty.ensures.file.told f told in
-      (t.0, t.1, marked c.what_a_repair_leaves.ensures c.args.place.now f (c.requires.place f told) t.0 t.2.outside
-      c.mark_dirty.new.place (c.in_ok-mark_dirty.ensures.found t.0 t.1) c.in_ok-mark_dirty.ensures.head);
+      let t = c.mark_dirty.ensures.file.told f told in (
+        t.0,
+        t.1,
+        marked c.what_a_repair_leaves.ensures c.args.place.now f (c.requires.place f told) t.0 t.2.outside
+            c.mark_dirty.new.place (c.in_ok-mark_dirty.ensures.found t.0 t.1) c.in_ok-mark_dirty.ensures.head,
+      );
   untold = c.mark_dirty.ensures.file.untold;
 }
 

@@ -35,9 +35,12 @@ returns-clause-file g c =
     record {
       told = λ f told.
           let t = marked.told f told in
-          let u = c.close_rejects.ensures.table.told t.0 t.1 in
-          (u.0, u.1, keeps_closing laws h q f t.0 t.2 u.0 (u.2 q.head
-          (rejects_there h q c.args.found.now.rejects old.file mid.file laws c.requires.rejects marked t.0 t.1)));
+          let u = c.close_rejects.ensures.table.told t.0 t.1 in (
+            u.0,
+            u.1,
+            keeps_closing laws h q f t.0 t.2 u.0 (u.2 q.head
+                (rejects_there h q c.args.found.now.rejects old.file mid.file laws c.requires.rejects marked t.0 t.1)),
+          );
       untold = λ none. c.close_rejects.ensures.table.untold (marked.untold none);
     }
 
