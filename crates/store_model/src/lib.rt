@@ -1,4 +1,3 @@
-//! Definitions of the table that a file and its book hold together, and laws of what opens it, changes it, flushes it and
-//! stops it. It stands on `book_model` and `table_model`.
+//! Definitions of the table that a file and its book hold together, of what keeps the table of a file, and of the changes that
+//! give keys new objects. It stands on `book_model` and `table_model`.
 #![tactic(auto)]
-
