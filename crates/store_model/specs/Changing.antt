@@ -4,7 +4,6 @@ use Rattle.std.specs.List.{list_any}
 use Rattle.term_model.specs.TermValue.{TermValue}
 use Rattle.term_model.specs.Order.{is_same}
 use Rattle.table_model.specs.Table.{Table, objects_of}
-use Rattle.table_model.specs.Allowed.{IsTable}
 use Rattle.etf_model.specs.Canonical.{spelled}
 use Rattle.file_model.specs.declared.block.Packed.{Packed}
 use Rattle.file_model.specs.Packing.{MayPack, IsBlockOf}
@@ -28,5 +27,4 @@ GiveKeys new (k ∷ ks) (c ∷ cs) = GivesKey new k c × GiveKeys new ks cs
 pub record ChangesKeys (keys : List TermValue) (old new : Table) : Type 0 where
   pub kind : new.kind ≡ old.kind
   pub keypos : new.keypos ≡ old.keypos
-  pub allowed : IsTable new
   pub others : (k : TermValue) → list_any (is_same k) keys ≡ false → objects_of new k ≡ objects_of old k
