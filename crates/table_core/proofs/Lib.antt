@@ -6,3 +6,4 @@ pub mod Answered
 pub mod Loaded
 pub mod MadeBook
 pub mod OpenedFile
+pub mod Flushed

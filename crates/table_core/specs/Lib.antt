@@ -1,6 +1,7 @@
 -- The definitions of this crate.
 pub mod Opening
 pub mod TableState
+pub mod Flushing
 pub mod Answering
 pub mod Repairing
 pub mod Below

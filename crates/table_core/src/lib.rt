@@ -5,6 +5,7 @@
 //! refuses it or repairs it, and at each moment keeps its table; `opened_book` gives the book of a file that was scanned.
 #![tactic(auto)]
 
+pub use fault::TableFault;
 pub use file_model::Located;
 pub use flush_engine::Book;
 pub use open_fault::OpenFault;
@@ -15,6 +16,8 @@ pub use std::alloc::AllocError as Memory;
 pub use table::Table;
 
 mod below;
+mod fault;
+mod flushing;
 mod loading;
 mod open_book;
 mod open_fault;
