@@ -1,15 +1,20 @@
 //! A table over its file.
-ghost use Rattle.std.specs.Prelude.{◌≡◌, ◌≤◌, false, [], List, ℕ, Err, IfOk, IfErr, OnOk, length, sum_by};
+ghost use Rattle.std.specs.Prelude.{◌≡◌, ◌≤◌, ◌+◌, ◌-◌, ◌*◌, true, false, [], Err, IfOk, IfErr, OnOk, OnErr, length, sum_by};
 ghost use Rattle.host_model.specs.Counts.{Rose};
 ghost use Rattle.host_model.specs.Disk.{WhereTold, Changes};
 ghost use Rattle.host_model.specs.Host.{Settled, Rests};
 ghost use Rattle.host_model.specs.Images.{LeavesImages};
+ghost use Rattle.block_disk.specs.Copies.{OnlyDisk};
+ghost use Rattle.book_model.specs.OfFile.{IsOf};
+ghost use Rattle.flush_engine.specs.Flushed.{FlushesLedger};
+ghost use Rattle.table_core.specs.Flushing.{HoldsStill, LeavesBetween};
 ghost use Rattle.table_core.specs.Answering.{fault_of_opening, IsAnsweredBy, IsOpenedTo, IsOpening, IsRefusal};
 
+use crate::flushing::flush;
 use crate::open_book::open_book;
-use crate::{Access, Book, OpenFault, OpenOptions};
+use crate::{Access, Book, OpenFault, OpenOptions, TableFault};
 use dets_term::Kind;
-use host_model::Host;
+use host_model::{DiskFailed, Host};
 use std::alloc::Global;
 use std::marker::Model;
 
@@ -73,6 +78,45 @@ impl Table {
             access: options.access,
             failed: false,
         })
+    }
+
+    /// Writes all that waits and makes it lasting. With Ok the file has the table, and the host is settled; where nothing waits
+    /// and no segment was added no call is made. Each image since the start has of each key what it had in the file or what it
+    /// has in the table. The only fault is `Disk`, which comes only where a call on the disk failed.
+    pub fn sync<H: Host>(&mut self, host: &mut H) -> Result<(), TableFault>
+        requires usable { self.old.failed ≡ false }
+        requires settled { Settled (H.shows host.old) }
+        requires of_file { WhereTold (H.shows host.old).file (λ f. IsOf f self.old.book) }
+        ensures of_file { OnOk result (WhereTold (H.shows host.new).file (λ f. IsOf f self.new.book)) }
+        ensures holds { OnOk result (Changes (HoldsStill self.old.book self.new.book) (H.shows host.old).file (H.shows host.new).file) }
+        ensures ledger { OnOk result (Changes (FlushesLedger self.old.book self.new.book) (H.shows host.old).file (H.shows host.new).file) }
+        ensures settled { OnOk result (Settled (H.shows host.new)) }
+        ensures waits { OnOk result (self.new.book.cache ≡ []) }
+        ensures usable { OnOk result (self.new.failed ≡ false) }
+        ensures kind { OnOk result (self.new.book.place.head.kind ≡ self.old.book.place.head.kind) }
+        ensures keypos { OnOk result (self.new.book.place.head.keypos ≡ self.old.book.place.head.keypos) }
+
+        // Whatever it answers.
+        ensures slots { self.new.slots ≡ self.old.slots }
+        ensures access { self.new.access ≡ self.old.access }
+        ensures any_moment { WhereTold (H.shows host.old).file (LeavesBetween (H.shows host.old) (H.shows host.new) self.old.book) }
+        ensures only_disk { OnlyDisk (H.shows host.old) (H.shows host.new) }
+        ensures clock { (H.shows host.new).clock ≤ (H.shows host.old).clock
+            + 3 * length self.old.book.cache + 12 + 65 * (self.old.book.space.segments - self.old.book.place.head.segments) }
+        ensures no_call { self.old.book.cache ≡ [] → self.old.book.space.segments ≡ self.old.book.place.head.segments → host.new ≡ host.old }
+
+        ensures only { IfErr result (λ fault. fault ≡ TableFault.Disk) }
+        ensures failed { OnErr result (self.new.failed ≡ true) }
+        ensures cause { OnErr result (Rose (H.shows host.old).disk_faults (H.shows host.new).disk_faults) }
+        ensures ok_faults { OnOk result ((H.shows host.new).disk_faults ≡ (H.shows host.old).disk_faults) }
+    {
+        match flush(host, &mut self.book) {
+            Ok(()) => Ok(()),
+            Err(DiskFailed) => {
+                self.failed = true;
+                Err(TableFault::Disk)
+            }
+        }
     }
 
     /// The kind of the table.
