@@ -7,3 +7,4 @@ pub mod Loaded
 pub mod MadeBook
 pub mod OpenedFile
 pub mod Flushed
+pub mod Shut

@@ -37,7 +37,7 @@ module _ (laws : RepairLaws) (place : Located) (f : List ℕ) (found : located f
   abbrev h : Head
   h = place.head
 
-  read : head_of f ≡ Ok h
+  pub read : head_of f ≡ Ok h
   read = (laws.located f place found).0
 
   pub page : page_size ≤ length f
@@ -57,10 +57,10 @@ module _ (laws : RepairLaws) (place : Located) (f : List ℕ) (found : located f
       counted_again
 
   module _ (z : List ℕ) (outside : DiffersIn the_page f z) where
-    same_length : length z ≡ length f
+    pub same_length : length z ≡ length f
     same_length = omega (arith, page, outside.no_shorter, outside.no_longer)
 
-    seen : (g : Head) → view_of g z ≡ view_of g f
+    pub seen : (g : Head) → view_of g z ≡ view_of g f
     seen g = laws.seen segment_units g the_page f z (omega arith) outside
         (ap (λ n. min g.segments (segments_within segment_units n)) same_length) (λ k a b. behind k a)
 
@@ -72,7 +72,7 @@ module _ (laws : RepairLaws) (place : Located) (f : List ℕ) (found : located f
     sound_by_header : (g : Head) → head_of f ≡ Ok g → is_sound g f ≡ true → is_sound h f ≡ true
     sound_by_header g e s = let same : g ≡ h = cc (e, read) in subst (λ x. is_sound x f ≡ true) same s
 
-    with_old_header : head_of z ≡ Ok h → Keeps h f z
+    pub with_old_header : head_of z ≡ Ok h → Keeps h f z
     with_old_header e = record {
       head = h;
       read = e;

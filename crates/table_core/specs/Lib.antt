@@ -2,6 +2,7 @@
 pub mod Opening
 pub mod TableState
 pub mod Flushing
+pub mod Closing
 pub mod Answering
 pub mod Repairing
 pub mod Below

@@ -16,6 +16,7 @@ pub use std::alloc::AllocError as Memory;
 pub use table::Table;
 
 mod below;
+mod closing;
 mod fault;
 mod flushing;
 mod loading;
