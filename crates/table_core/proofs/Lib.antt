@@ -8,3 +8,4 @@ pub mod MadeBook
 pub mod OpenedFile
 pub mod Flushed
 pub mod Shut
+pub mod ClosedBook

@@ -13,3 +13,7 @@ HoldsStill before after old new = (t : Table) → Stores old before t → Stores
 -- while a table goes into its file each image is between the two
 abbrev pub LeavesBetween : Shown → Shown → Book → List ℕ → Type 0
 LeavesBetween old new b file = (t : Table) → Stores file b t → LeavesImages old new (IsBetween file (table_with b.place.head file) t)
+
+-- and so is the file then
+abbrev pub IsBetweenFor : Book → (old new : List ℕ) → Type 0
+IsBetweenFor b old new = (t : Table) → Stores old b t → IsBetween old (table_with b.place.head old) t new

@@ -21,6 +21,7 @@ use crate::flushing::flush;
 use crate::{Book, Located};
 use block_disk::{FileState, Head, change_header};
 use host_model::{DiskFailed, Host};
+use store_model::flush_laws::where_nothing_waits_the_table_is_that_of_the_file;
 
 /// Whether a header says that the file is closed and has no index.
 fn says_closed(head: &Head) -> bool
@@ -61,4 +62,29 @@ fn mark_closed<H: Host>(host: &mut H, place: &mut Located) -> Result<(), DiskFai
         change_header(host, place, next)?;
     }
     Ok(())
+}
+
+/// Flushes what waits, and has the header say that the file is closed. With Ok the file is closed and sound, and its table is the
+/// one that it and its book held. `DiskFailed` comes only where a call on the disk failed.
+pub(crate) fn close_book<H: Host>(host: &mut H, book: Book) -> Result<(), DiskFailed>
+    requires settled { Settled (H.shows host.old) }
+    requires order { IsInOrder (book_of book) }
+    requires of_file { WhereTold (H.shows host.old).file (λ f. IsOf f (book_of book)) }
+    ensures closed { OnOk result (Changes (ClosesWith (book_of book)) (H.shows host.old).file (H.shows host.new).file) }
+    ensures ledger { OnOk result (Changes (KeepsLedger (book_of book)) (H.shows host.old).file (H.shows host.new).file) }
+    ensures settled { OnOk result (Settled (H.shows host.new)) }
+
+    // Whatever it answers.
+    ensures any_moment { WhereTold (H.shows host.old).file (LeavesBetween (H.shows host.old) (H.shows host.new) (book_of book)) }
+    ensures only_disk { OnlyDisk (H.shows host.old) (H.shows host.new) }
+    ensures clock { (H.shows host.new).clock ≤ (H.shows host.old).clock
+        + 3 * length book.cache + 20 + 65 * (book.space.segments - book.place.head.segments) }
+
+    ensures cause { OnErr result (Rose (H.shows host.old).disk_faults (H.shows host.new).disk_faults) }
+    ensures ok_faults { OnOk result ((H.shows host.new).disk_faults ≡ (H.shows host.old).disk_faults) }
+{
+    where_nothing_waits_the_table_is_that_of_the_file();
+    let mut book = book;
+    flush(host, &mut book)?;
+    mark_closed(host, &mut book.place)
 }

@@ -8,7 +8,7 @@ ghost use Rattle.book_model.specs.Book.{IsInOrder};
 ghost use Rattle.book_model.specs.OfFile.{IsOf};
 ghost use Rattle.flush_engine.specs.Meaning.{book_of};
 ghost use Rattle.flush_engine.specs.Flushed.{FlushesLedger};
-ghost use Rattle.table_core.specs.Flushing.{HoldsStill, LeavesBetween};
+ghost use Rattle.table_core.specs.Flushing.{HoldsStill, LeavesBetween, IsBetweenFor};
 
 use crate::Book;
 use flush_engine::commit;
@@ -35,6 +35,7 @@ pub(crate) fn flush<H: Host>(host: &mut H, book: &mut Book) -> Result<(), DiskFa
 
     // Whatever it answers.
     ensures any_moment { WhereTold (H.shows host.old).file (LeavesBetween (H.shows host.old) (H.shows host.new) (book_of book.old)) }
+    ensures file { Changes (IsBetweenFor (book_of book.old)) (H.shows host.old).file (H.shows host.new).file }
     ensures only_disk { OnlyDisk (H.shows host.old) (H.shows host.new) }
     ensures clock { (H.shows host.new).clock ≤ (H.shows host.old).clock
         + 3 * length book.old.cache + 12 + 65 * (book.old.space.segments - book.old.place.head.segments) }

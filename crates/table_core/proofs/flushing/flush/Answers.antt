@@ -16,3 +16,11 @@ returns-clause-any_moment g c f told t st =
     let b = book_of c.args.book.now in
     images_weaker (IsStopped b f) (IsBetween f (table_with b.place.head f) t) (g.H.Host.shows c.args.host.now) (g.H.Host.shows c.commit.new.host)
     (λ image stop. c.a_stop_leaves_the_file_or_the_table.ensures f image b t st stop) (c.commit.ensures.any_moment f told)
+
+pub returns-clause-file : goal.returns-clause-file
+returns-clause-file g c = record {
+  told = λ f told.
+      let t = c.commit.ensures.file.told f told in
+      (t.0, t.1, λ table st. c.a_stop_leaves_the_file_or_the_table.ensures f t.0 (book_of c.args.book.now) table st t.2);
+  untold = c.commit.ensures.file.untold;
+}
