@@ -8,8 +8,10 @@ ghost use Rattle.block_disk.specs.Copies.{OnlyDisk};
 ghost use Rattle.book_model.specs.OfFile.{IsOf};
 ghost use Rattle.flush_engine.specs.Flushed.{FlushesLedger};
 ghost use Rattle.table_core.specs.Flushing.{HoldsStill, LeavesBetween};
+ghost use Rattle.table_core.specs.Closing.{ClosesWith, KeepsLedger};
 ghost use Rattle.table_core.specs.Answering.{fault_of_opening, IsAnsweredBy, IsOpenedTo, IsOpening, IsRefusal};
 
+use crate::closing::close_book;
 use crate::flushing::flush;
 use crate::open_book::open_book;
 use crate::{Access, Book, OpenFault, OpenOptions, TableFault};
@@ -117,6 +119,31 @@ impl Table {
                 Err(TableFault::Disk)
             }
         }
+    }
+
+    /// Writes all that waits, and has the file say that it is closed. With Ok the file is closed and sound, its table is this
+    /// one, and the host is settled. Each image since the start has of each key what it had in the file or what it has in the
+    /// table. The only fault is `Disk`, which comes only where a call on the disk failed. The table is spent.
+    pub fn close<H: Host>(self, host: &mut H) -> Result<(), TableFault>
+        requires usable { self.failed ≡ false }
+        requires settled { Settled (H.shows host.old) }
+        requires of_file { WhereTold (H.shows host.old).file (λ f. IsOf f self.book) }
+        ensures closed { OnOk result (Changes (ClosesWith self.book) (H.shows host.old).file (H.shows host.new).file) }
+        ensures ledger { OnOk result (Changes (KeepsLedger self.book) (H.shows host.old).file (H.shows host.new).file) }
+        ensures settled { OnOk result (Settled (H.shows host.new)) }
+
+        // Whatever it answers.
+        ensures any_moment { WhereTold (H.shows host.old).file (LeavesBetween (H.shows host.old) (H.shows host.new) self.book) }
+        ensures only_disk { OnlyDisk (H.shows host.old) (H.shows host.new) }
+        ensures clock { (H.shows host.new).clock ≤ (H.shows host.old).clock
+            + 3 * length self.book.cache + 20 + 65 * (self.book.space.segments - self.book.place.head.segments) }
+
+        ensures only { IfErr result (λ fault. fault ≡ TableFault.Disk) }
+        ensures cause { OnErr result (Rose (H.shows host.old).disk_faults (H.shows host.new).disk_faults) }
+        ensures ok_faults { OnOk result ((H.shows host.new).disk_faults ≡ (H.shows host.old).disk_faults) }
+    {
+        close_book(host, self.book)?;
+        Ok(())
     }
 
     /// The kind of the table.
