@@ -4,7 +4,6 @@ use Rattle.term_model.specs.TermValue.{TermValue}
 use Rattle.dets_term.specs.IsTerm.{IsTerm}
 use Rattle.table_model.specs.Table.{Table, objects_of}
 use Rattle.etf_model.specs.Canonical.{spelled}
-use Rattle.space_model.specs.Apart.{In}
 use Rattle.file_model.specs.declared.head.Head.{Head}
 use Rattle.file_model.specs.declared.block.Packed.{Packed}
 use Rattle.write_cache.specs.declared.pending.Pending.{Pending}

@@ -1,7 +1,6 @@
 -- The key of a term is a term.
-use Rattle.std.proofs.Common.{◌≡◌, ◌≤◌, ℕ, zero, suc, Bool, true, false, cond, List, [], ◌∷◌, Option, Some, None, ap, sym, subst, arith}
-use Rattle.std.specs.Prelude.{slice_get, max}
-use Rattle.std.proofs.lemmas.Bool.{cases_Bool}
+use Rattle.std.proofs.Common.{◌≡◌, ◌≤◌, ℕ, zero, suc, Bool, true, false, cond, List, [], ◌∷◌, Option, Some, None, subst, arith}
+use Rattle.std.specs.Prelude.{slice_get}
 use Rattle.term_model.specs.TermValue.{TermValue, integer, atom, tuple, mapping, nil, cons, bits, elements, key, parts_depth, is_list}
 use Rattle.term_model.specs.declared.kind.Kind.{Kind}
 use Rattle.dets_term.specs.IsTerm.{IsTerm, IsBounded}

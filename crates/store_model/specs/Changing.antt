@@ -1,5 +1,5 @@
 -- The changes of a command that gives some keys new objects. This project's own.
-use Rattle.std.specs.Prelude.{◌≡◌, ℕ, false, List, [], ◌∷◌, None, Some}
+use Rattle.std.specs.Prelude.{◌≡◌, false, List, [], ◌∷◌, None, Some}
 use Rattle.std.specs.List.{list_any}
 use Rattle.term_model.specs.TermValue.{TermValue}
 use Rattle.term_model.specs.Order.{is_same}

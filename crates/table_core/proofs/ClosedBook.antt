@@ -1,6 +1,5 @@
 -- A book is flushed and its file is closed.
-use Rattle.std.proofs.Common.{◌≡◌, ◌≤◌, inr, ℕ, List, [], map, Option, Some, Result, Ok, Err, refl, sym, ap, ◌∙◌, subst, arith}
-use Rattle.std.specs.Prelude.{OnOk, min}
+use Rattle.std.proofs.Common.{◌≡◌, inr, ℕ, List, [], map, Option, Some, refl, sym, ap, ◌∙◌, subst, arith}
 use Rattle.std.proofs.lemmas.Bool.{leb-true}
 use Rattle.term_model.specs.TermValue.{TermValue}
 use Rattle.dets_term.specs.IsTerm.{IsTerm}
@@ -12,10 +11,9 @@ use Rattle.host_model.specs.Disk.{WhereTold, Changes}
 use Rattle.host_model.specs.Host.{Shown}
 use Rattle.host_model.specs.Images.{LeavesImages, images_then}
 use Rattle.file_model.specs.Layout.{whole_segments}
-use Rattle.file_model.specs.View.{view_of}
 use Rattle.file_model.specs.Taken.{taken_above, objects_in}
 use Rattle.book_model.specs.Book.{Book}
-use Rattle.book_model.specs.OfFile.{standing_block, standing_of}
+use Rattle.book_model.specs.OfFile.{standing_block}
 use Rattle.book_model.specs.LedgerOfFile.{HasLedger}
 use Rattle.flush_engine.specs.Flushed.{FlushesLedger}
 use Rattle.store_model.specs.Stores.{table_with, Stores, IsBetween}

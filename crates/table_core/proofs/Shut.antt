@@ -1,14 +1,13 @@
 -- The header of a file is closed, and all else shows what it showed.
-use Rattle.std.proofs.Common.{◌≡◌, ◌≤◌, ⊎_elim, ℕ, Bool, true, false, ◌&&◌, ◌||◌, List, [], length, Option, None, Ok, refl, sym, ap, ◌∙◌, subst, arith}
+use Rattle.std.proofs.Common.{◌≡◌, ⊎_elim, ℕ, true, List, None, Ok, refl, ap, ◌∙◌}
 use Rattle.std.specs.Prelude.{nat_le}
 use Rattle.std.proofs.lemmas.Bool.{and_from}
 use Rattle.space_model.specs.Sizes.{segment_units}
 use Rattle.host_model.specs.Disk.{DiffersIn}
 use Rattle.file_model.specs.declared.head.Head.{Head}
 use Rattle.file_model.specs.declared.head.Located.{Located}
-use Rattle.file_model.specs.declared.head.FileState.{FileState}
 use Rattle.file_model.specs.declared.head.FileState.TheVariants.{Closed}
-use Rattle.file_model.specs.Layout.{page_size, segments_within}
+use Rattle.file_model.specs.Layout.{segments_within}
 use Rattle.file_model.specs.Header.{head_of, located}
 use Rattle.file_model.specs.View.{View, view_of}
 use Rattle.file_model.specs.Taken.{taken, objects_in}

@@ -2,7 +2,8 @@
 //!
 //! Stands on `flush_engine` for the book of a file and its flush, on `repair_scan` for what a file holds, and on `slot_table`,
 //! `buddy_space` and `write_cache`, which keep the parts of a book. A `Table` is opened by `open_table`, which makes the file,
-//! refuses it or repairs it, and at each moment keeps its table; `opened_book` gives the book of a file that was scanned.
+//! refuses it or repairs it, and at each moment keeps its table; `sync` and `close` write what waits, and at each moment of them
+//! every key has what it had in the file or what it has in the table. `opened_book` gives the book of a file that was scanned.
 #![tactic(auto)]
 
 pub use fault::TableFault;

@@ -1,4 +1,4 @@
-use Rattle.std.proofs.Common.{◌≡◌, ◌∙◌, Ok, ap}
+use Rattle.std.proofs.Common.{◌∙◌, Ok, ap}
 use Rattle.host_model.specs.Images.{images_weaker}
 use Rattle.block_disk.specs.Copies.{HasEither}
 use Rattle.store_model.specs.Keeping.{Keeps}
@@ -29,9 +29,12 @@ returns-in_ok-change_header-clause-closed g c =
     record {
       told = λ f told.
           let t = c.change_header.ensures.file.told f told in
-          let head = (laws.located t.0 c.change_header.new.place (c.in_ok-change_header.ensures.found t.0 t.1)).0 in
-          (t.0, t.1, shut laws place f (c.requires.place f told) (c.requires.whole f told) (c.requires.none f told) t.0 t.2.outside
-          (head ∙ ap (λ h. Ok h) c.in_ok-change_header.ensures.head));
+          let head = (laws.located t.0 c.change_header.new.place (c.in_ok-change_header.ensures.found t.0 t.1)).0 in (
+            t.0,
+            t.1,
+            shut laws place f (c.requires.place f told) (c.requires.whole f told) (c.requires.none f told) t.0 t.2.outside
+                (head ∙ ap (λ h. Ok h) c.in_ok-change_header.ensures.head),
+          );
       untold = c.change_header.ensures.file.untold;
     }
 
